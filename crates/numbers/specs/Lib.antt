@@ -1,0 +1,2 @@
+-- What other crates cite of numbers: rows of bytes.
+pub mod Bytes
