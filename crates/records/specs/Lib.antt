@@ -1,0 +1,2 @@
+-- A message record spread over columns.
+pub mod Records
