@@ -38,3 +38,10 @@ eqL-self (x ∷ xs) = rw (eq-eqb x x refl) (eqL-self xs)
 
 pub eqL-false : (xs ys : List ℕ) → eqL xs ys ≡ false → xs ≡ ys → ⊥
 eqL-false xs ys f e = clash (eqL xs ys) (rw e (eqL-self ys)) f
+
+-- it does not matter which is named first
+pub eqL-sym : (xs ys : List ℕ) → eqL xs ys ≡ eqL ys xs
+eqL-sym xs ys =
+    byBool (eqL xs ys)
+    (λ t. rw (eqL-true xs ys t))
+    (λ f. byBool (eqL ys xs) (λ t. clash (eqL xs ys) (rw (eqL-true ys xs t) (eqL-self xs)) f) (λ g. f ∙ sym g))

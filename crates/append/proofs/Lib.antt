@@ -1,0 +1,2 @@
+-- The proofs of the functions, and what they share.
+pub mod AddSteps

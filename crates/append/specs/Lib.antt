@@ -1,0 +1,2 @@
+-- What the inner steps of an add need and leave.
+pub mod Rows

@@ -1,0 +1,82 @@
+-- What a removal asks of well-formed columns, and how the contracts of its calls make its answer: `refused` if an account that goes holds an
+-- external, `removed` if none does. Assumes nothing.
+use mathlib.Core.Path.{_≡_, ap, _∙_}
+use mathlib.Core.Bool.{Bool, not}
+use mathlib.Core.List.{List, []}
+use Prim.Native.Nat.{ℕ, _*_, _/_, _≤_}
+use native.Mathlib.Nat.{div-add-mod'}
+use native.Mathlib.Omega.{arith}
+use lib.ListN.{length, replicate}
+use borrow.Author.Tests.{eq-eqb, ne-eqb}
+use Rattle.columns.proofs.Scans.{length-mapI}
+use Rattle.message.specs.declared.Code.the-variants.{Done, HoldsExternal}
+use Rattle.queues.specs.Cols.{Cols, number}
+use Rattle.queues.specs.Good.{Long, Good}
+use Rattle.queues.specs.Append.{left}
+use Rattle.queues.specs.Compact.{gone, packedC, compactC, seatsC, lostExternals, leftNumbers, withNumbers, goesC, seatsOf, removedC, removeC}
+use Rattle.removal.specs.Seats.{Seated, Owned, Compacted}
+use Rattle.removal.proofs.Seating.{seatFor}
+
+module _ (c : Cols) (g : Good c) where
+  pub few : number c 2 ≤ 1024
+  few = omega (arith, g .now .messages, g .M·high)
+
+  pub seated : number c 3 ≤ 256
+  seated = omega (arith, g .now .places, g .A·high)
+
+  pub owned : (seats : ℕ) → seats ≡ 256 → Owned (number c 2) (c .owner) (length (c .kind)) seats
+  owned seats e = record {
+    few = few;
+    rows = g .lengths .owner;
+    kinds = g .lengths .kind;
+    table = e;
+    owners = λ i l. omega (arith, g .now .placed i l, seated);
+  }
+
+  -- the numbers are not packed
+  pub long : Long (withNumbers [] c)
+  long =
+      let l = g .lengths in
+      record {
+        owner = l .owner;
+        kind = l .kind;
+        form = l .form;
+        time = l .time;
+        address = l .address;
+        hash = l .hash;
+        accounts = l .accounts;
+      }
+
+-- the whole names lie in the list
+pub whole : (l : ℕ) → 32 * (l / 32) ≤ l
+whole l = omega (arith, div-add-mod' l 32)
+
+-- the seats keep their number
+pub length-seated : {goes : ℕ → Bool} {a : ℕ} {seats₀ seats : List ℕ} {r : ℕ} → Seated goes a seats₀ seats r → length seats ≡ length seats₀
+unfolding seatsC
+length-seated {goes} {a} {seats₀} s = ap length (s .seats) ∙ length-mapI (seatFor goes) a 0 seats₀
+
+module _ (names : List ℕ) (c : Cols) (seats : List ℕ) (stay lost : ℕ) (seat : Seated (goesC names c) (number c 3) (replicate 256 gone) seats stay)
+    (count : lost ≡ lostExternals seats (c .kind) (number c 2) (c .owner)) where
+  of-names : seats ≡ seatsOf names c
+  unfolding seatsOf
+  of-names = seat .seats
+
+  loses : lost ≡ lostExternals (seatsOf names c) (c .kind) (number c 2) (c .owner)
+  loses = count ∙ ap (λ (s : List ℕ). lostExternals s (c .kind) (number c 2) (c .owner)) of-names
+
+  pub refused : (lost ≡ 0 → ⊥) → left HoldsExternal c ≡ removeC names c
+  unfolding removeC
+  refused h = rw (← loses, ne-eqb lost 0 h)
+
+  module _ (none : lost ≡ 0) (c₁ : Cols) (r : ℕ) (done : Compacted (number c 2) (number c 3) seats (withNumbers [] c) c₁ r)
+      (ns : List ℕ) (left-over : ns ≡ leftNumbers r stay (c .numbers)) where
+    packed : withNumbers ns c₁ ≡ removedC seats stay c
+    unfolding removedC compactC packedC
+    packed =
+        (λ i. withNumbers (left-over i) (done .cols i))
+        ∙ (λ i. withNumbers (leftNumbers (done .count i) stay (c .numbers)) (compactC (number c 2) (number c 3) seats c))
+
+    pub removed : left Done (withNumbers ns c₁) ≡ removeC names c
+    unfolding removeC
+    removed = rw (← loses, eq-eqb lost 0 none) (ap (left Done) (packed ∙ (λ i. removedC (of-names i) (seat .stay i) c)))

@@ -1,0 +1,2 @@
+-- What the inner steps of a removal need and leave.
+pub mod Seats

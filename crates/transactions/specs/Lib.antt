@@ -1,0 +1,2 @@
+-- What the inner steps of a transaction need.
+pub mod Halves
