@@ -1,0 +1,150 @@
+// The bucket index of a group: for each count of messages from 0 to 16 the numbers of the slots listed there, in the order they came. A
+// bucket is 64 cells of one array, which goes from call to call by value.
+use numbers::SlotId;
+ghost use mathlib.Core.Path.{_≡_};
+ghost use Prim.Native.Nat.{_<_};
+ghost use lib.ListN.{length, getD, take};
+ghost use Rattle.rules.specs.World.{isNil, joined};
+ghost use Rattle.rules.specs.Fill.{reindexed, listedToo};
+ghost use Rattle.rules.specs.Fill as rules;
+ghost use Rattle.buckets.specs.Cells.{mark, bucketOf, index, GoodBuckets};
+ghost use Rattle.buckets.specs.Moves.{Plain, slotsOf, Leaves, putLast, takenOut, movedOn, MayPut, MayReindex, MayList};
+
+// No entry. 0 and 65,535 are slot numbers.
+pub const NONE: u32 = 65536;
+
+// Seventeen empty buckets.
+pub fn fresh() -> [u32; 1088]
+    ensures { λ r. ⌜ Leaves (rules.fresh Plain .index) r ⌝ }
+{
+    [NONE; 1088]
+}
+
+// How many slots bucket c lists.
+pub fn listed(buckets: [u32; 1088], c: usize) -> usize
+    requires { ⌜ c < 17 ⌝ }
+    ensures { λ r. ⌜ r ≡ length (bucketOf buckets c) ⌝ }
+{
+    let base = 64 * c;
+    let mut k: usize = 0;
+    while k < 64 {
+        if buckets[base + k] >= NONE {
+            return k;
+        }
+        k += 1;
+    }
+    k
+}
+
+// The k-th slot that bucket c lists, the mark behind the last.
+pub fn entry(buckets: [u32; 1088], c: usize, k: usize) -> u32
+    requires { ⌜ GoodBuckets buckets × (c < 17) × (k < 64) ⌝ }
+    ensures { λ r. ⌜ r ≡ getD (bucketOf buckets c) k mark ⌝ }
+{
+    buckets[64 * c + k]
+}
+
+// Lists a slot last in bucket c.
+pub fn put_last(mut buckets: [u32; 1088], c: usize, number: SlotId) -> [u32; 1088]
+    requires { ⌜ MayPut buckets c (number .0) ⌝ }
+    ensures { λ r. ⌜ Leaves (putLast c (number .0) (index buckets)) r ⌝ }
+{
+    let k = listed(buckets, c);
+    buckets[64 * c + k] = number.0 as u32;
+    buckets
+}
+
+// Takes a slot out of bucket c, where it is listed there: those behind it move up.
+pub fn take_out(mut buckets: [u32; 1088], c: usize, number: SlotId) -> [u32; 1088]
+    requires { ⌜ GoodBuckets buckets × (c < 17) ⌝ }
+    ensures { λ r. ⌜ Leaves (takenOut c (number .0) (index buckets)) r ⌝ }
+{
+    let base = 64 * c;
+    let gone = number.0 as u32;
+    let mut i: usize = 0;
+    let mut w: usize = 0;
+    while i < 64 {
+        let x: u32 = buckets[base + i];
+        if x != gone {
+            buckets[base + w] = x;
+            w += 1;
+        }
+        i += 1;
+    }
+    while w < 64 {
+        buckets[base + w] = NONE;
+        w += 1;
+    }
+    buckets
+}
+
+// Whether every bucket below the height is empty.
+pub fn none_below(buckets: [u32; 1088], height: usize) -> bool
+    ensures { λ r. ⌜ r ≡ isNil (joined (take height (index buckets))) ⌝ }
+{
+    let top = if height < 17 { height } else { 17 };
+    let mut c: usize = 0;
+    while c < top {
+        if buckets[64 * c] < NONE {
+            return false;
+        }
+        c += 1;
+    }
+    true
+}
+
+// A slot goes from bucket `old` to bucket `new`, and stays listed in the old one too unless another left it before.
+fn moved(buckets: [u32; 1088], old: usize, new: usize, number: SlotId, again: bool) -> [u32; 1088]
+    requires { ⌜ MayPut buckets new (number .0) × (old < 17) ⌝ }
+    ensures { λ r. ⌜ Leaves (movedOn old new (number .0) again (index buckets)) r ⌝ }
+{
+    let put = put_last(buckets, new, number);
+    if again {
+        take_out(put, old, number)
+    } else {
+        put
+    }
+}
+
+// The index after a fill, of n slots by rising number with their counts before it and after it.
+pub fn reindex(
+    buckets: [u32; 1088],
+    numbers: &[u16],
+    olds: &[u8],
+    news: &[u8],
+    n: usize,
+) -> [u32; 1088]
+    requires { ⌜ MayReindex buckets (now numbers) (now olds) (now news) n ⌝ }
+    ensures { λ r.
+        ⌜ Leaves (reindexed Plain (slotsOf (now (numbers .entry)) (now (olds .entry)) n) (slotsOf (now (numbers .entry)) (now (news .entry)) n) 0 (index buckets)) r ⌝ }
+{
+    let mut made = buckets;
+    let mut left = [0u8; 17];
+    let mut i: usize = 0;
+    while i < n {
+        let old = numbers::wide8(olds[i]);
+        let new = numbers::wide8(news[i]);
+        if old != new {
+            let next = moved(made, old, new, SlotId(numbers[i]), left[old] == 1);
+            made = next;
+            left[old] = 1;
+        }
+        i += 1;
+    }
+    made
+}
+
+// The index after a join, of n new slots by rising number with their counts.
+pub fn list_new(buckets: [u32; 1088], numbers: &[u16], counts: &[u8], n: usize) -> [u32; 1088]
+    requires { ⌜ MayList buckets (now numbers) (now counts) n ⌝ }
+    ensures { λ r. ⌜ Leaves (listedToo Plain (slotsOf (now (numbers .entry)) (now (counts .entry)) n) 0 (index buckets)) r ⌝ }
+{
+    let mut made = buckets;
+    let mut i: usize = 0;
+    while i < n {
+        let next = put_last(made, numbers::wide8(counts[i]), SlotId(numbers[i]));
+        made = next;
+        i += 1;
+    }
+    made
+}
