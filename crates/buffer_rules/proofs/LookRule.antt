@@ -98,7 +98,7 @@ module _ (h : Half) where
       queue-of a (i + 1) p (λ j l. let y = o j l in omega arith) ∙ ap (λ (k : ℕ). pick (messageIn h) k (h .messages) 0 (h .owner)) e
 
 -- the k-th of what is picked, by the row where it stands
-pick-nth : {A : Type 0} (f : ℕ → A) (n p m i k : ℕ) (os : List ℕ) → i + m ≤ n
+pub pick-nth : {A : Type 0} (f : ℕ → A) (n p m i k : ℕ) (os : List ℕ) → i + m ≤ n
     → nth k (pick f p m i os) ≡ cond (ltb (getD (pick (λ j. j) p m i os) k n) n) (some (f (getD (pick (λ j. j) p m i os) k n))) none
 unfolding pick nth
 pick-nth f n p zero i k os l = rw (le-ltb n n (omega arith))

@@ -30,7 +30,7 @@ use Rattle.queues.proofs.Meaning.{pick-owners, SameRows, SameHalf}
 -- ---- one step each
 
 -- what one owner picks tells the function at each of its rows
-picked : {A : Type 0} (f g : ℕ → A) (p m i j k : ℕ) (os : List ℕ) → pick f p m i os ≡ pick g p m i os → j < m → j < length os → getD os j 0 ≡ p → k ≡ i + j → f k ≡ g k
+pub picked : {A : Type 0} (f g : ℕ → A) (p m i j k : ℕ) (os : List ℕ) → pick f p m i os ≡ pick g p m i os → j < m → j < length os → getD os j 0 ≡ p → k ≡ i + j → f k ≡ g k
 unfolding pick
 picked f g p zero i j k os e l h o z = absurd (not-suc-le-zero l)
 picked f g p (suc m) i j k [] e l h o z = absurd (not-suc-le-zero h)
@@ -47,20 +47,20 @@ picked f g p (suc m) i (suc j) k (x ∷ os) e l h o z =
     (λ t. picked f g p m (i + 1) j k os (rw t at e) (le-of-suc-le-suc l) (le-of-suc-le-suc h) o (omega arith))
 
 -- a form byte of at most 1 is told by its form
-form-told : (x y : ℕ) → x ≤ 1 → y ≤ 1 → formOf x ≡ formOf y → x ≡ y
+pub form-told : (x y : ℕ) → x ≤ 1 → y ≤ 1 → formOf x ≡ formOf y → x ≡ y
 form-told zero zero a b e = refl
 form-told zero (suc y) a b e = let z : _≡_ {A = ℕ} 0 1 = cc in absurd (omega arith)
 form-told (suc x) zero a b e = let z : _≡_ {A = ℕ} 0 1 = cc in absurd (omega arith)
 form-told (suc x) (suc y) a b e = omega arith
 
 -- a mark of at most 1, and a number that is 0 without it
-mark-told : (n m x y : ℕ) → n ≤ 1 → m ≤ 1 → ifMarked n x ≡ ifMarked m y → n ≡ m
+pub mark-told : (n m x y : ℕ) → n ≤ 1 → m ≤ 1 → ifMarked n x ≡ ifMarked m y → n ≡ m
 mark-told zero zero x y a b e = refl
 mark-told zero (suc m) x y a b e = let z : _≡_ {A = ℕ} 0 1 = cc in absurd (omega arith)
 mark-told (suc n) zero x y a b e = let z : _≡_ {A = ℕ} 0 1 = cc in absurd (omega arith)
 mark-told (suc n) (suc m) x y a b e = omega arith
 
-least-told : (n m x y : ℕ) → (n ≡ 0 → x ≡ 0) → (m ≡ 0 → y ≡ 0) → ifMarked n x ≡ ifMarked m y → x ≡ y
+pub least-told : (n m x y : ℕ) → (n ≡ 0 → x ≡ 0) → (m ≡ 0 → y ≡ 0) → ifMarked n x ≡ ifMarked m y → x ≡ y
 least-told zero zero x y a b e = a refl ∙ sym (b refl)
 least-told zero (suc m) x y a b e = let z : _≡_ {A = ℕ} 0 1 = cc in absurd (omega arith)
 least-told (suc n) zero x y a b e = let z : _≡_ {A = ℕ} 0 1 = cc in absurd (omega arith)
@@ -127,7 +127,7 @@ module _ {M A : ℕ} (h k : Half) (g : GoodHalf M A h) (f : GoodHalf M A k) (lon
 -- ---- the live half, cell by cell
 
 -- two columns whose rows before n are the same and whose cells from there on hold 0
-cells-same : (xs ys : List ℕ) (n size : ℕ) → ((i : ℕ) → i < n → getD xs i 0 ≡ getD ys i 0) → Zeros xs n size → Zeros ys n size
+pub cells-same : (xs ys : List ℕ) (n size : ℕ) → ((i : ℕ) → i < n → getD xs i 0 ≡ getD ys i 0) → Zeros xs n size → Zeros ys n size
     → (i : ℕ) → i < size → getD xs i 0 ≡ getD ys i 0
 cells-same xs ys n size e x y i l =
     byBool (ltb i n)
@@ -135,7 +135,7 @@ cells-same xs ys n size e x y i l =
     (λ f. let z = ltb-false i n f in x i z l ∙ sym (y i z l))
 
 -- the same for a flat column, whose rows are the same
-bytes-same : (xs ys : List ℕ) (n size : ℕ) → ((i : ℕ) → i < n → rowAt xs i ≡ rowAt ys i) → Zeros xs (32 * n) size → Zeros ys (32 * n) size
+pub bytes-same : (xs ys : List ℕ) (n size : ℕ) → ((i : ℕ) → i < n → rowAt xs i ≡ rowAt ys i) → Zeros xs (32 * n) size → Zeros ys (32 * n) size
     → (i : ℕ) → i < size → getD xs i 0 ≡ getD ys i 0
 bytes-same xs ys n size e x y = cells-same xs ys (32 * n) size in-row x y
   where

@@ -1,0 +1,1 @@
+-- Theorems alone: the definitions are those of the crates below.

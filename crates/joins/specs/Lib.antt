@@ -1,0 +1,2 @@
+-- What the loops and the parts of a join need.
+pub mod Laying
