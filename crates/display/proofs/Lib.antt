@@ -1,0 +1,3 @@
+-- What holds of the pieces of a line (Pieces), and lines worked out (Cases).
+pub mod Pieces
+pub mod Cases

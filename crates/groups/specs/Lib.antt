@@ -1,0 +1,2 @@
+-- What the public contracts of a group cite.
+pub mod Groups

@@ -1,0 +1,17 @@
+-- `Skipped::fresh` meets its contract: it holds no account, and every cell is fresh. Assumes nothing.
+use mathlib.Core.Path.{refl}
+use Prim.Native.Nat.{ℕ}
+use native.Mathlib.Omega.{arith}
+use lib.ListN.{length-replicate, getD-replicate}
+use Rattle.columns.specs.Rows.{rowsOf}
+use Rattle.skipped.proofs.Skipped.fresh.Statement.{statement}
+use Rattle.skipped.proofs.Skipped.fresh.Tie as tie
+
+returns : tie.Need-returns
+unfolding rowsOf
+returns c = (record { long = length-replicate {A = ℕ} 16384 0; fits = record { once = tt; small = omega arith }; few = omega arith; blank = λ i a l. getD-replicate 16384 i 0 0 l }, refl)
+
+pub fresh-spec : {M : Type 1} → statement M
+fresh-spec =
+    tie.close
+    (tie.spec returns)

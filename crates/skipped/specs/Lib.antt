@@ -1,0 +1,2 @@
+-- What the public contracts of a skipped set cite.
+pub mod Sets

@@ -1,0 +1,44 @@
+// The closed skipped set: accounts that fills pass over, at most 512.
+ghost use mathlib.Core.Path.{_≡_};
+ghost use mathlib.Core.List.{[]};
+ghost use lib.ListN.{length};
+ghost use Rattle.rules.specs.Queues.{isIn};
+ghost use Rattle.message.specs.Real.{Real};
+ghost use Rattle.skipped.specs.Sets.{GoodSet, accountsIn};
+
+pub struct Skipped {
+    accounts: [u8; 16384],
+    held: usize,
+}
+
+impl Skipped {
+    // A set of no accounts.
+    pub fn fresh() -> Skipped
+        ensures { λ r. ⌜ GoodSet r × (accountsIn r ≡ []) ⌝ }
+    {
+        Skipped {
+            accounts: [0u8; 16384],
+            held: 0,
+        }
+    }
+
+    // How many accounts it holds.
+    pub fn len(self) -> usize
+        requires { ⌜ GoodSet self ⌝ }
+        ensures { λ r. ⌜ r ≡ length (accountsIn self) ⌝ }
+    {
+        let count = self.held;
+        count
+    }
+
+    // Whether it holds an account.
+    pub fn contains(self, name: [u8; 32]) -> bool
+        requires { ⌜ GoodSet self ⌝ }
+        ensures { λ r. ⌜ r ≡ isIn Real name (accountsIn self) ⌝ }
+    {
+        let accounts = self.accounts;
+        let held = self.held;
+        let x = name;
+        columns::find_row(&accounts, held, &x) < held
+    }
+}
