@@ -1,11 +1,11 @@
 -- A number summed up from the last 8 of 32 bytes: each byte fits behind those before it. Assumes nothing.
-use mathlib.Core.Path.{_≡_}
+use mathlib.Core.Path.{_≡_, refl}
 use mathlib.Core.List.{List}
 use Prim.Native.Nat.{ℕ, suc, _+_, _-_, _*_, _^_, _≤_, _<_}
 use native.Mathlib.Nat.{sub-zero, pow-suc, pow-le-pow-right}
 use native.Mathlib.Omega.{arith}
 use lib.ListN.{length, getD}
-use Rattle.words.specs.Digits.{numberIn}
+use Rattle.words.specs.Digits.{spelled, nameOf, numberIn}
 use Rattle.words.proofs.Digits.{Summing, sum-start, sum-step, sum-end}
 
 module _ (name : List ℕ) where
@@ -42,3 +42,8 @@ module _ (name : List ℕ) where
   pub name-end : {n i : ℕ} → Naming n i → 32 ≤ i → n ≡ numberIn name
   unfolding numberIn
   name-end v h = sum-end 256 0 (v .sum) (omega (arith, v .long))
+
+-- a name has 32 bytes
+pub name-long : (n : ℕ) → length (nameOf n) ≡ 32
+unfolding nameOf spelled
+name-long n = refl

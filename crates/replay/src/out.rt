@@ -1,0 +1,77 @@
+// Buffered writing to standard output. Bytes wait on a page that is lent, and leave when it is full or at the end of the run.
+
+// How many bytes wait on the page, and whether a write failed. After that nothing more is written.
+pub struct Pen {
+    pub used: usize,
+    pub failed: bool,
+}
+
+// An empty page.
+pub fn fresh() -> Pen {
+    Pen {
+        used: 0,
+        failed: false,
+    }
+}
+
+// Writes out what waits.
+pub fn flush(page: &[u8], pen: Pen) -> Pen {
+    let used = pen.used;
+    let failed = pen.failed;
+    if failed {
+        return pen;
+    }
+    if page.len() < used {
+        return pen;
+    }
+    let written = io::write_all(libc::STDOUT_FILENO, &page[..used]);
+    Pen {
+        used: 0,
+        failed: !written,
+    }
+}
+
+// Puts one byte on the page, after a flush if it is full.
+fn byte(page: &mut [u8], pen: Pen, b: u8) -> Pen {
+    let mut now = pen;
+    if page.len() <= now.used {
+        now = flush(page, pen);
+    }
+    let at = now.used;
+    let failed = now.failed;
+    if page.len() <= at {
+        return now;
+    }
+    page[at] = b;
+    Pen {
+        used: at + 1,
+        failed,
+    }
+}
+
+// Puts bytes on the page.
+pub fn text(page: &mut [u8], pen: Pen, bytes: &[u8]) -> Pen {
+    let mut now = pen;
+    let mut i: usize = 0;
+    while i < bytes.len() {
+        now = byte(page, now, bytes[i]);
+        i += 1;
+    }
+    now
+}
+
+// Puts a number on the page, in decimal.
+pub fn number(page: &mut [u8], pen: Pen, n: u64) -> Pen {
+    let mut digits = [0u8; 20];
+    let k = words::decimal::write(n, &mut digits);
+    text(page, pen, &digits[..k])
+}
+
+// Puts a flag on the page: 0 or 1.
+pub fn flag(page: &mut [u8], pen: Pen, f: bool) -> Pen {
+    if f {
+        text(page, pen, b"1")
+    } else {
+        text(page, pen, b"0")
+    }
+}
