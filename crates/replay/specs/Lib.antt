@@ -1,2 +1,2 @@
 -- What the contracts of replay cite.
-pub mod Desks
+pub mod Runs

@@ -2,19 +2,16 @@
 ghost use mathlib.Core.Path.{_≡_};
 ghost use Prim.Native.Nat.{_*_, _≤_};
 ghost use lib.ListN.{length};
-ghost use Rattle.replay.specs.Desks.{GoodDesk, Ready};
+ghost use Rattle.scenario.specs.Desks.{GoodDesk};
+ghost use Rattle.replay.specs.Runs.{Ready};
 
-mod commands;
-mod desk;
 mod input;
-mod out;
-mod show;
 
-use commands::Command;
-use commands::Line;
-use desk::Desk;
 use input::Reader;
-use out::Pen;
+use printout::out::Pen;
+use scenario::commands::Command;
+use scenario::commands::Line;
+use scenario::desk::Desk;
 
 // What a line leaves: the desk, the pen, and whether the run goes on.
 struct Passed {
@@ -77,13 +74,13 @@ fn act(
     requires { ⌜ GoodDesk desk ⌝ }
     ensures { λ r. ⌜ GoodDesk (r .desk) ⌝ }
 {
-    let done = desk::repeat(desk, times, c, names);
+    let done = scenario::desk::repeat(desk, times, c, names);
     let after = done.desk;
     let reply = done.reply;
-    let echoed = show::echo(page, pen, line);
-    let replied = show::reply(page, echoed, reply);
+    let echoed = printout::show::echo(page, pen, line);
+    let replied = printout::show::reply(page, echoed, reply);
     if after.loud {
-        let shown = show::state(page, replied, after);
+        let shown = printout::show::state(page, replied, after);
         return Passed {
             desk: after,
             pen: shown,
@@ -110,7 +107,7 @@ fn turn(
     requires { ⌜ GoodDesk desk ⌝ }
     ensures { λ r. ⌜ GoodDesk (r .desk) ⌝ }
 {
-    let read = commands::read(line, numbers);
+    let read = scenario::commands::read(line, numbers);
     match read {
         Line::Silent => Passed {
             desk,
@@ -118,7 +115,7 @@ fn turn(
             on: true,
         },
         Line::Bad => {
-            let said = show::bad_line(page, pen, number);
+            let said = printout::show::bad_line(page, pen, number);
             Passed {
                 desk,
                 pen: said,
@@ -177,8 +174,8 @@ fn lines(
     names: &mut [u8],
     page: &mut [u8],
 ) -> Pen {
-    let mut desk = desk::fresh();
-    let mut pen = out::fresh();
+    let mut desk = scenario::desk::fresh();
+    let mut pen = printout::out::fresh();
     let mut reader = input::fresh();
     let mut number: u64 = 0;
     let mut on = true;
@@ -196,7 +193,7 @@ fn lines(
 // The whole run, and what waits on the page at its end.
 fn run(chunk: &mut [u8], line: &mut [u8], numbers: &mut [u64], names: &mut [u8], page: &mut [u8]) {
     let pen = lines(chunk, line, numbers, names, page);
-    out::flush(page, pen);
+    printout::out::flush(page, pen);
 }
 
 // Room for the longest line and one byte more.

@@ -20,12 +20,8 @@ loop-holds c = (refl, refl, c .before .before .pre, search needs)
 filled-requires : tie.Need-filled-requires Inv-loop μ-loop
 filled-requires c κs = c .before .before .loop .inv .2
 
--- what is known where a byte was read: the chunk has its length, and the byte lies in it
-same-length-at : (c : tie.After-slice-known3 Inv-loop μ-loop) → length (c .before .before .filled .last .0) ≡ length (c .before .before .before .before .before .before .before .before .args .chunk .now)
-same-length-at c = let d = c .before .before in d .filled .kept .0 ∙ d .before .before .before .loop .inv .0
-
 same-length : tie.Need-same-length Inv-loop μ-loop
-same-length c = same-length-at (c .before)
+same-length c = let d = c .before .before .before in d .filled .kept .0 ∙ d .before .before .before .loop .inv .0
 
 same-length-2 : tie.Need-same-length-2 Inv-loop μ-loop
 same-length-2 c = c .before .before .before .before .before .before .loop .inv .1
@@ -43,7 +39,7 @@ add-t9 c =
     omega (arith, c .before .if1 .left, d .filled .ensures, d .filled .kept .0, l .loop .inv .0, l .before .before .before .good .0 .0)
 
 same-length-3 : tie.Need-same-length-3 Inv-loop μ-loop
-same-length-3 c = same-length-at (c .before .before .before)
+same-length-3 c = let d = c .before .before .before .before .before in d .filled .kept .0 ∙ d .before .before .before .loop .inv .0
 
 same-length-4 : tie.Need-same-length-4 Inv-loop μ-loop
 same-length-4 c = c .before .before .before .before .before .before .before .before .loop .inv .1
@@ -84,23 +80,5 @@ returns-3 c = (c .before .loop .inv .2, c .before .loop .inv .3)
 pub next-spec : {M : Type 1} → statement M
 next-spec =
     tie.close
-    (tie.spec
-    Inv-loop
-    μ-loop
-    loop-holds
-    filled-requires
-    same-length
-    same-length-2
-    returns
-    slice-read-b
-    add-t9
-    same-length-3
-    same-length-4
-    returns-2
-    slice-write-line
-    add-n
-    loop-less
-    loop-again
-    same-length-5
-    same-length-6
-    returns-3)
+    (tie.spec Inv-loop μ-loop loop-holds filled-requires same-length same-length-2 returns slice-read-b add-t9 same-length-3 same-length-4 returns-2
+    slice-write-line add-n loop-less loop-again same-length-5 same-length-6 returns-3)

@@ -27,4 +27,6 @@ returns : tie.Need-returns Inv-loop μ-loop
 returns c = place-end _ (c .before .loop .inv) (c .loop-test .left)
 
 pub places-spec : {M : Type 1} → statement M
-places-spec = tie.close (tie.spec Inv-loop μ-loop loop-holds add-k loop-less loop-again returns)
+places-spec =
+    tie.close
+    (tie.spec Inv-loop μ-loop loop-holds add-k loop-less loop-again returns)

@@ -24,12 +24,6 @@ returns c = read-none _ (c .if1 .taken)
 loop-holds : tie.Need-loop-holds Inv-loop μ-loop
 loop-holds c = read-start _ (c .if1 .left)
 
-shared-slice-read-b : tie.Need-shared-slice-read-b Inv-loop μ-loop
-shared-slice-read-b c = search needs
-
-is-digit-requires : tie.Need-is-digit-requires Inv-loop μ-loop
-is-digit-requires c κs = search needs
-
 returns-2 : tie.Need-returns-2 Inv-loop μ-loop
 returns-2 c =
     let d = c .before .before .before in
@@ -65,12 +59,6 @@ mul-value c = omega (arith, c .if3 .left, bounds (c .before))
 add-value : tie.Need-add-value Inv-loop μ-loop
 add-value c = omega (arith, c .if3 .left, bounds (c .before))
 
-add-at : tie.Need-add-at Inv-loop μ-loop
-add-at c = search needs
-
-loop-less : tie.Need-loop-less Inv-loop μ-loop
-loop-less c = search needs
-
 loop-again : tie.Need-loop-again Inv-loop μ-loop
 loop-again c =
     let d = c .before .before .before .before in
@@ -82,21 +70,5 @@ returns-4 c = read-end _ (c .before .loop .inv) (c .loop-test .left)
 pub read-spec : {M : Type 1} → statement M
 read-spec =
     tie.close
-    (tie.spec
-    Inv-loop
-    μ-loop
-    returns
-    loop-holds
-    shared-slice-read-b
-    is-digit-requires
-    returns-2
-    sub-digit
-    cast-digit
-    sub-if3
-    returns-3
-    mul-value
-    add-value
-    add-at
-    loop-less
-    loop-again
-    returns-4)
+    (tie.spec Inv-loop μ-loop returns loop-holds (λ c. search needs) (λ c κs. search needs) returns-2 sub-digit cast-digit sub-if3 returns-3 mul-value
+    add-value (λ c. search needs) (λ c. search needs) loop-again returns-4)

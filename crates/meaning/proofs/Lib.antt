@@ -1,0 +1,20 @@
+-- What the columns mean, routine by routine. Sims is what other crates cite; the files before it are its parts.
+pub mod Tabs
+pub mod Queues
+pub mod Lists
+pub mod Takes
+pub mod Check
+pub mod Pass
+pub mod Idle
+pub mod Move
+pub mod MoveFits
+pub mod Keeps
+pub mod Kept
+pub mod Sims
+pub mod Lines
+pub mod Opens
+pub mod First
+pub mod Sweeps
+pub mod Ends
+pub mod Begins
+pub mod Runs

@@ -1,0 +1,2 @@
+-- What the contracts of a desk cite.
+pub mod Desks

@@ -1,0 +1,82 @@
+-- `walks::seek` meets its contract: what the rest of the walk makes of the columns now is what the whole walk makes of those at entry.
+-- Assumes nothing.
+use mathlib.Core.Path.{refl}
+use Prim.Native.Nat.{_-_}
+use native.Mathlib.Omega.{arith}
+use Rattle.meaning.specs.Meaning.{columns}
+use Rattle.meaning.specs.Walks.{seekC}
+use Rattle.walks.proofs.Steps.{Going, Seek, seek-end, seek-on, seek-stop, next-good}
+use Rattle.walks.proofs.seek.Statement.{statement}
+use Rattle.walks.proofs.seek.Tie as tie
+
+abbrev Inv-loop : tie.InvT-loop
+Inv-loop owner₀ class taken₀ home₀ member₀ ints₀ exts₀ mark₀ cost joined₀ fixed slot from at₀ now₀ owner taken home member ints exts mark joined at
+    now =
+    Going fixed cost (Seek class cost fixed slot)
+    (seekC class cost fixed slot (fixed .places - from) from (columns owner₀ taken₀ home₀ member₀ ints₀ exts₀ mark₀ joined₀ now₀)) at
+    (columns owner taken home member ints exts mark joined now)
+
+abbrev μ-loop : tie.MeasureT-loop
+μ-loop owner₀ class taken₀ home₀ member₀ ints₀ exts₀ mark₀ cost joined₀ fixed slot from at₀ now₀ owner taken home member ints exts mark joined at now
+    =
+    fixed .places - at
+
+loop-holds : tie.Need-loop-holds Inv-loop μ-loop
+loop-holds c = record { good = c .pre .0; same = refl }
+
+meet-requires : tie.Need-meet-requires Inv-loop μ-loop
+meet-requires c κs =
+    let lp = c .before .before .before .before .before .before .before .before .before .before in (
+      lp .loop .inv .good,
+      (
+        omega (
+          arith,
+          c .before .before .before .before .before .before .before .before .if1 .taken,
+          lp .loop .inv .good .store
+              .places-fit,
+        ),
+        lp .before .pre .1,
+      ),
+    )
+
+add-at : tie.Need-add-at Inv-loop μ-loop
+add-at c = omega (
+  arith,
+  c .before .before .before .before .before .before .before .before .before .if1 .taken,
+  c .before .before .before .before
+      .before .before .before .before .before .before .before .loop .inv .good .store .places-fit,
+)
+
+held-requires : tie.Need-held-requires Inv-loop μ-loop
+held-requires c κs =
+    let lp = c .before .before .before .before .before .before .before .before .before .before .before .before .before in
+    let good = next-good _ _ _ _ (lp .before .pre .1) (lp .loop .inv) (c .before .before .before .before .before .before .before .before .before
+    .before .before .if1 .taken) (c .before .before .meet .ensures) in
+    (lp .before .pre .1, (good .store .ints-long, good .store .exts-long))
+
+returns : tie.Need-returns Inv-loop μ-loop
+returns c =
+    let lp = c .before .before .before .before .before .before .before .before .before .before .before .before .before .before .before in
+    seek-stop _ _ _ _ (lp .before .pre .1) (lp .loop .inv) (c .before .before .before .before .before .before .before .before .before .before .before
+    .before .before .if1 .taken) (c .before .before .before .before .meet .ensures)
+    (c .before .held .ensures) (c .if2 .taken)
+
+loop-less : tie.Need-loop-less Inv-loop μ-loop
+loop-less c = omega (arith, c .before .before .before .before .before .before .before .before .before .before .before .before .before .if1 .taken)
+
+loop-again : tie.Need-loop-again Inv-loop μ-loop
+loop-again c =
+    let lp = c .before .before .before .before .before .before .before .before .before .before .before .before .before .before .before in
+    seek-on _ _ _ _ (lp .before .pre .1) (lp .loop .inv) (c .before .before .before .before .before .before .before .before .before .before .before
+    .before .before .if1 .taken) (c .before .before .before .before .meet .ensures)
+    (c .before .held .ensures) (c .if2 .left)
+
+returns-2 : tie.Need-returns-2 Inv-loop μ-loop
+returns-2 c =
+    let lp = c .before .before in
+    seek-end _ _ _ _ (lp .before .pre .1) (lp .loop .inv) (omega (arith, c .if1 .left))
+
+pub seek-spec : {M : Type 1} → statement M
+seek-spec =
+    tie.close
+    (tie.spec Inv-loop μ-loop loop-holds meet-requires add-at held-requires returns loop-less loop-again returns-2)
