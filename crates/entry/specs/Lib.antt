@@ -1,0 +1,2 @@
+-- What the entry of a fill leaves in each of its columns.
+pub mod Entry
