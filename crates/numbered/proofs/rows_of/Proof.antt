@@ -1,9 +1,9 @@
--- `work::rows_of` meets its contract: the owners are copied and the classes laid, each over a fresh column. Assumes nothing.
+-- `numbered::rows_of` meets its contract: the owners are copied and the classes laid, each over a fresh column. Assumes nothing.
 use borrow.Author.Needs.{needs}
-use Rattle.work.specs.Begin.{held}
-use Rattle.work.proofs.Parts.{rows-are}
-use Rattle.work.proofs.rows_of.Statement.{statement}
-use Rattle.work.proofs.rows_of.Tie as tie
+use Rattle.numbered.specs.Begin.{held}
+use Rattle.numbered.proofs.Parts.{rows-are}
+use Rattle.numbered.proofs.rows_of.Statement.{statement}
+use Rattle.numbered.proofs.rows_of.Tie as tie
 
 returns : tie.Need-returns
 returns c =

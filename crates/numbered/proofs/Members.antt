@@ -15,7 +15,7 @@ use Rattle.columns.specs.Rows.{rowAt}
 use Rattle.columns.proofs.Tabs.{length-tab, getD-tab}
 use Rattle.columns.proofs.Laid.{length-laid, getD-laid-in}
 use Rattle.entry.specs.Entry.{Sayings, seatIn, partyOf, numberedC, markOf, costOf, orderMarks, orderCosts, Judges}
-use Rattle.work.specs.Begin.{Accounts, FitAccounts, memberW}
+use Rattle.numbered.specs.Begin.{Accounts, FitAccounts, memberW}
 
 -- a column as it is made
 abbrev fresh : ℕ → List ℕ

@@ -9,10 +9,10 @@ use Rattle.columns.specs.Laid.{laidAt}
 use Rattle.message.specs.declared.Filter.{Filter}
 use Rattle.buckets.specs.Cells.{index, GoodBuckets}
 use Rattle.entry.specs.Entry.{Sayings, Spoken, numberedC, housedC, orderMarks, orderCosts, groupMarks, groupCosts, classesC, ownersC}
-use Rattle.work.specs.declared.Work.{Work}
-use Rattle.work.specs.declared.Homes.{Homes}
-use Rattle.work.specs.declared.Judged.{Judged}
-use Rattle.work.specs.declared.Rows.{Rows}
+use Rattle.numbered.specs.declared.Work.{Work}
+use Rattle.numbered.specs.declared.Homes.{Homes}
+use Rattle.numbered.specs.declared.Judged.{Judged}
+use Rattle.numbered.specs.declared.Rows.{Rows}
 
 -- the accounts: `places` of the buffer's order; `members` of the group, with their homes
 pub record Accounts : Type 0 where

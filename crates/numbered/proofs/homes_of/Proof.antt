@@ -1,12 +1,12 @@
--- `work::homes_of` meets its contract: the parties of the group's accounts are parties, so each has a home's cell (proofs/Members.antt).
+-- `numbered::homes_of` meets its contract: the parties of the group's accounts are parties, so each has a home's cell (proofs/Members.antt).
 -- Assumes nothing.
 use native.Mathlib.Omega.{arith}
 use borrow.Author.Needs.{needs}
-use Rattle.work.specs.Begin.{Accounts, accounts}
-use Rattle.work.proofs.Members.{length-fresh, member-long, member-low}
-use Rattle.work.proofs.Parts.{homes-are}
-use Rattle.work.proofs.homes_of.Statement.{statement}
-use Rattle.work.proofs.homes_of.Tie as tie
+use Rattle.numbered.specs.Begin.{Accounts, accounts}
+use Rattle.numbered.proofs.Members.{length-fresh, member-long, member-low}
+use Rattle.numbered.proofs.Parts.{homes-are}
+use Rattle.numbered.proofs.homes_of.Statement.{statement}
+use Rattle.numbered.proofs.homes_of.Tie as tie
 
 abbrev given : tie.Start → Accounts
 given s = accounts (s .args .order .now) (s .args .places) (s .args .group .now) (s .args .homes .now) (s .args .members)

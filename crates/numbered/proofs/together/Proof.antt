@@ -1,10 +1,10 @@
--- `work::together` meets its contract: the slots are listed on a fresh column, the rest is put into place (proofs/Parts.antt).
+-- `numbered::together` meets its contract: the slots are listed on a fresh column, the rest is put into place (proofs/Parts.antt).
 -- Assumes nothing.
 use borrow.Author.Needs.{needs}
-use Rattle.work.specs.Begin.{slots}
-use Rattle.work.proofs.Parts.{works-are}
-use Rattle.work.proofs.together.Statement.{statement}
-use Rattle.work.proofs.together.Tie as tie
+use Rattle.numbered.specs.Begin.{slots}
+use Rattle.numbered.proofs.Parts.{works-are}
+use Rattle.numbered.proofs.together.Statement.{statement}
+use Rattle.numbered.proofs.together.Tie as tie
 
 returns : tie.Need-returns
 returns c =

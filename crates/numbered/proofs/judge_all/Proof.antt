@@ -1,12 +1,12 @@
--- `work::judge_all` meets its contract: the order's accounts are judged, then the group's, on columns that keep their lengths
+-- `numbered::judge_all` meets its contract: the order's accounts are judged, then the group's, on columns that keep their lengths
 -- (proofs/Members.antt). Assumes nothing.
 use native.Mathlib.Omega.{arith}
 use borrow.Author.Needs.{needs}
 use Rattle.entry.specs.Entry.{Sayings, sayings}
-use Rattle.work.proofs.Members.{marks-long, costs-long}
-use Rattle.work.proofs.Parts.{judged-are}
-use Rattle.work.proofs.judge_all.Statement.{statement}
-use Rattle.work.proofs.judge_all.Tie as tie
+use Rattle.numbered.proofs.Members.{marks-long, costs-long}
+use Rattle.numbered.proofs.Parts.{judged-are}
+use Rattle.numbered.proofs.judge_all.Statement.{statement}
+use Rattle.numbered.proofs.judge_all.Tie as tie
 
 abbrev said : tie.Start → Sayings
 said s =

@@ -1,7 +1,7 @@
--- `work::run` meets its contract: the fields, copied to locals, are lent to the passes and put together again. Assumes nothing.
+-- `numbered::run` meets its contract: the fields, copied to locals, are lent to the passes and put together again. Assumes nothing.
 use borrow.Author.Needs.{needs}
-use Rattle.work.proofs.run.Statement.{statement}
-use Rattle.work.proofs.run.Tie as tie
+use Rattle.numbered.proofs.run.Statement.{statement}
+use Rattle.numbered.proofs.run.Tie as tie
 
 run-requires : tie.Need-run-requires
 run-requires c κs =

@@ -1,10 +1,10 @@
--- `work::begin` meets its contract: the columns made one by one are the value (proofs/Parts.antt). Assumes nothing.
+-- `numbered::begin` meets its contract: the columns made one by one are the value (proofs/Parts.antt). Assumes nothing.
 use borrow.Author.Needs.{needs}
 use Rattle.entry.specs.Entry.{sayings}
-use Rattle.work.specs.Begin.{accounts, held, slots}
-use Rattle.work.proofs.Parts.{begun}
-use Rattle.work.proofs.begin.Statement.{statement}
-use Rattle.work.proofs.begin.Tie as tie
+use Rattle.numbered.specs.Begin.{accounts, held, slots}
+use Rattle.numbered.proofs.Parts.{begun}
+use Rattle.numbered.proofs.begin.Statement.{statement}
+use Rattle.numbered.proofs.begin.Tie as tie
 
 returns : tie.Need-returns
 returns c =

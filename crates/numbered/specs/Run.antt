@@ -8,8 +8,8 @@ use Rattle.moves.specs.declared.Fixed.{Fixed}
 use Rattle.meaning.specs.Meaning.{Columns, columns}
 use Rattle.meaning.specs.Walks.{Good}
 use Rattle.meaning.specs.Passes.{RanC, ranC, runC}
-use Rattle.work.specs.declared.Work.{Work}
-use Rattle.work.specs.declared.Done.{Done}
+use Rattle.numbered.specs.declared.Work.{Work}
+use Rattle.numbered.specs.declared.Done.{Done}
 
 -- the columns that a run changes
 abbrev pub columnsW : Work → Tally → Columns
