@@ -1,5 +1,7 @@
--- The laws of lists that are shared (Maps); then `buffer-after` and what goes with it (BufferAfter), `keys-after` (KeysAfter) and
--- `set-after` (SetAfter).
+-- What the end of a fill leaves means what the rules say: `buffer-after` and `store-after` (BufferAfter), `keys-after` (KeysAfter), `set-after`
+-- (SetAfter), `lists-after` and `slots-after` (GroupAfter), `in-last` and the counts (InCounts), `index-after` and `group-after` (WholeGroup).
+-- What they ask of the numbers comes from the entry and is kept by a run: `run-traced` (RunTraced), and `buffer-facts`, `key-facts` and
+-- `group-facts` (FactsAfter). The laws of lists are in Maps and RowsLaid.
 pub mod Maps
 pub mod BufferAfter
 pub mod KeysAfter
@@ -8,3 +10,7 @@ pub mod RowsLaid
 pub mod GroupAfter
 pub mod InCounts
 pub mod WholeGroup
+pub mod Traces
+pub mod Through
+pub mod RunTraced
+pub mod FactsAfter

@@ -122,3 +122,23 @@ pub record TracedStore (fx : Fixed) (s₀ s : Store) : Type 0 where
 pub record Traced (fx : Fixed) (m₀ m : Columns) : Type 0 where
   pub store : TracedStore fx (m₀ .store) (m .store)
   pub joined : (k : ℕ) → k < m .store .tally .joined → getD (m .joined) k 0 < 1280
+
+-- ---- what the entry makes: the numbers of the buffer and of the group
+
+pub record EntryFacts (ext : ℕ → Bool) (time : ℕ → ℕ) (f : Renaming (Numbers ext time) Real) (fx : Fixed) (c : Cols) (t : Table) (b : Setting) (m₀ : Columns) : Type 0 where
+  pub good : Good c
+  pub group : GroupGood t
+  pub rows : fx .rows ≡ number c 2
+  pub places : fx .places ≡ number c 3
+  pub accounts : m₀ .store .tally .accounts ≡ count t 2
+  -- the accounts: of the order by their place, of the group by their member
+  pub acc : (p : ℕ) → p < number c 3 → f .acc p ≡ rowAt (c .accounts) p
+  pub member : (g : ℕ) → g < count t 2 → f .acc (getD (m₀ .store .member) g 0) ≡ rowAt (t .accounts) g
+  pub parties : (g : ℕ) → g < count t 2 → getD (m₀ .store .member) g 0 < 1280
+  pub homes : (g : ℕ) → g < count t 2 → getD (m₀ .store .home) (getD (m₀ .store .member) g 0) 0 ≡ getD (t .home) g 0
+  -- the messages
+  pub msg : (i : ℕ) → i < number c 2 → f .msg i ≡ messageIn (live c) i
+  pub old-msg : (k : ℕ) → k < count t 3 → f .msg (2048 + k) ≡ messageIn (listed t) k
+  pub entry : b .entryLists ≡ tabI (count t 2) 0 (λ g. pick (λ k. 2048 + k) g (count t 3) 0 (t .owner))
+  pub external : (i : ℕ) → i < number c 2 → ext i ≡ eqb (getD (c .kind) i 0) 1
+  pub key : (i : ℕ) → i < number c 2 → f .key i ≡ keyOf (f .msg i)
