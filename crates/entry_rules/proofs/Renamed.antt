@@ -90,7 +90,7 @@ module _ (v : Call) (good : GoodCall v) where
         (omega (arith, few-rows v good, good .buffer .lengths .owner)) (owner-cell v good l lent)
         ∙ pick-cong (messageOf v) (messageIn (live (v .buffer))) p (rows v) 0 (v .buffer .owner) (λ j a b. buffer-message v good j (omega arith))
 
-    place-acc : (p : ℕ) → p < places v → acc v p ≡ rowAt (v .buffer .accounts) p
+    pub place-acc : (p : ℕ) → p < places v → acc v p ≡ rowAt (v .buffer .accounts) p
     place-acc p h =
         acc-order (orderAccounts v) (groupAccounts v) (otherAccounts v) (few v good) (some v good) p (omega (arith, length-rows (places v) (v .buffer .accounts)))
         ∙ getD-rows (places v) p (v .buffer .accounts) [] h

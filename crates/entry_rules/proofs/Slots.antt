@@ -25,7 +25,7 @@ opens-rule v home member =
     (length-tab (count (v .group) 1) 0 (slotAt (ext v) (time v) (v .group .number) (take (members v) member) home (v .group .ints) (v .group .exts)))
 
 -- an absent last number is read as 0
-marked-last : (m n : ℕ) → (m ≡ 0 → n ≡ 0) → atLeast0 (ifMarked m n) ≡ n
+pub marked-last : (m n : ℕ) → (m ≡ 0 → n ≡ 0) → atLeast0 (ifMarked m n) ≡ n
 unfolding atLeast0
 marked-last zero n h = sym (h refl)
 marked-last (suc m) n h = refl

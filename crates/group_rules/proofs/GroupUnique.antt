@@ -99,7 +99,7 @@ module _ (W : World) where
   has-accounts a [] = refl
   has-accounts a (r ∷ o) = rw (has-accounts a o)
 
-  rows-apart : Lawful W → (f : ℕ → Row W) (m i j k : ℕ) → Once W (accounts W (tabI m i f)) → i ≤ j → j < k → k < i + m → f j .acc ≡ f k .acc → ⊥
+  pub rows-apart : Lawful W → (f : ℕ → Row W) (m i j k : ℕ) → Once W (accounts W (tabI m i f)) → i ≤ j → j < k → k < i + m → f j .acc ≡ f k .acc → ⊥
   unfolding accounts tabI
   rows-apart L f zero i j k o a l u e = omega arith
   rows-apart L f (suc m) i j k o a l u e =

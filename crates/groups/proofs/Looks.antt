@@ -19,6 +19,7 @@ use Rattle.rules.specs.Queues.{has, at, accounts, accountAt}
 use Rattle.rules.specs.Fill.{isFilled}
 use Rattle.message.specs.Records.{blankMessage}
 use Rattle.message.specs.Real.{Real}
+use Rattle.message.specs.Seen.{seenAccount, seenMessage}
 use Rattle.queues.specs.Meant.{messageIn, ifMarked, bufferOf}
 use Rattle.queues.specs.Look.{rowOf, seatOf}
 use Rattle.buckets.specs.Cells.{mark, bucketOf, index, GoodBuckets}
@@ -29,7 +30,7 @@ use Rattle.slots.specs.Meant.{listed, slotIn, slotsOf, groupOf, meant}
 use Rattle.slots.specs.Good.{Good}
 use Rattle.buffer_rules.proofs.LookRule.{account-told}
 use Rattle.group_rules.proofs.GroupLook.{accounts-told, slots-told, slot-told, slot-account-told, filled-told, entry-told, messages-told, list-told}
-use Rattle.groups.specs.Groups.{countsOf, idOf, seenId, seenSlot, accountsAt, seenAccount, seenMessage}
+use Rattle.groups.specs.Groups.{countsOf, idOf, seenId, seenSlot, accountsAt}
 
 past-end : {A : Type 0} (xs : List A) (k : ℕ) (d : A) → length xs ≤ k → getD xs k d ≡ d
 past-end [] k d l = refl

@@ -6,7 +6,6 @@ use mathlib.Core.Option.{Option, none, some}
 use Prim.Native.Nat.{ℕ}
 use lib.Dec.{eqb}
 use lib.ListN.{length}
-use Rattle.numbers.specs.Bytes.{zeros}
 use Rattle.numbers.specs.declared.SlotId.{SlotId}
 use Rattle.rules.specs.World as world
 use Rattle.rules.specs.Queues.{allMsgs}
@@ -15,9 +14,7 @@ use Rattle.rules.specs.Calls as calls
 use Rattle.rules.specs.Calls.{Target, JoinAnswer}
 use Rattle.message.specs.declared.Code.{Code}
 use Rattle.message.specs.declared.Code.the-variants.{Done, SetUp}
-use Rattle.message.specs.declared.Message.{Message}
 use Rattle.message.specs.Answers.{number as numberOf}
-use Rattle.message.specs.Records.{blankMessage}
 use Rattle.message.specs.Real.{Real}
 use Rattle.columns.specs.Lists.{tabI}
 use Rattle.display.specs.Line.{lineOf, written}
@@ -31,8 +28,6 @@ use Rattle.groups.specs.declared.group.Group.{Group}
 use Rattle.groups.specs.declared.group.Counts.{Counts}
 use Rattle.groups.specs.declared.group.SeenSlot.{SeenSlot}
 use Rattle.groups.specs.declared.group.SeenId.{SeenId}
-use Rattle.groups.specs.declared.group.SeenAccount.{SeenAccount}
-use Rattle.groups.specs.declared.group.SeenMessage.{SeenMessage}
 
 abbrev pub tableOf : Group → Table
 tableOf g = record {
@@ -51,7 +46,7 @@ tableOf g = record {
   numbers = g .numbers;
 }
 
--- the fields are closed, and every call leaves them so
+-- well formed, which every call leaves; of the closed group (crate lintelsong) "a contract may rely on that alone"
 abbrev pub GoodGroup : Group → Type 0
 GoodGroup g = Good (tableOf g)
 
@@ -127,14 +122,6 @@ seenSlot (some s) = record { found = true; id = idOf (s .number); ints = s .ints
 abbrev pub accountsAt : Option (world.Slot Real) → List (List ℕ)
 accountsAt none = []
 accountsAt (some s) = s .accounts
-
-abbrev pub seenAccount : Option (List ℕ) → SeenAccount
-seenAccount none = record { found = false; account = zeros }
-seenAccount (some a) = record { found = true; account = a }
-
-abbrev pub seenMessage : Option Message → SeenMessage
-seenMessage none = record { found = false; message = blankMessage }
-seenMessage (some m) = record { found = true; message = m }
 
 -- the Display line of what a group holds
 abbrev pub lineFor : Counts → List ℕ

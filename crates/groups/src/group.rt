@@ -1,4 +1,4 @@
-// The closed group: slots by rising number, each with its accounts, and the accounts' lists of messages in order of collection.
+// The group: slots by rising number, each with its accounts, and the accounts' lists of messages in order of collection.
 ghost use mathlib.Core.Path.{_≡_};
 ghost use Rattle.rules.specs.World.{nth, isNil};
 ghost use Rattle.rules.specs.Queues.{has, at as listAt, accounts as accountsOf};
@@ -6,28 +6,30 @@ ghost use Rattle.rules.specs.Fill.{isFilled};
 ghost use lib.ListN.{getD};
 ghost use mathlib.Core.List.{[]};
 ghost use Rattle.message.specs.Real.{Real};
+ghost use Rattle.message.specs.Seen.{seenAccount, seenMessage};
 ghost use Rattle.slots.specs.Meant.{meant};
 ghost use Rattle.slots.specs.Join.{freshT, nextT, joinCodeT, joinedNumbersBy};
-ghost use Rattle.groups.specs.Groups.{tableOf, GoodGroup, SetsUp, Joins, countsOf, seenId, seenSlot, accountsAt, seenAccount, seenMessage, Displays, Joinable, SlotsOf, AccountsOf, MessagesOf, RecordsOf, numbersOf, BucketsOf};
+ghost use Rattle.groups.specs.Groups.{tableOf, GoodGroup, SetsUp, Joins, countsOf, seenId, seenSlot, accountsAt, Displays, Joinable, SlotsOf, AccountsOf, MessagesOf, RecordsOf, numbersOf, BucketsOf};
 use message::Code;
-use message::Message;
+use message::SeenAccount;
+use message::SeenMessage;
 use numbers::SlotId;
 
 // A group of at most 64 slots, 1,024 accounts and 1,024 messages.
 pub struct Group {
-    number: [u16; 64],
-    ints: [u8; 64],
-    exts: [u8; 64],
-    accounts: [u8; 32768],
-    home: [u8; 1024],
-    owner: [u16; 1024],
-    kind: [u8; 1024],
-    form: [u8; 1024],
-    time: [u64; 1024],
-    address: [u8; 32768],
-    hash: [u8; 32768],
-    buckets: [u32; 1088],
-    numbers: [u64; 16],
+    pub number: [u16; 64],
+    pub ints: [u8; 64],
+    pub exts: [u8; 64],
+    pub accounts: [u8; 32768],
+    pub home: [u8; 1024],
+    pub owner: [u16; 1024],
+    pub kind: [u8; 1024],
+    pub form: [u8; 1024],
+    pub time: [u64; 1024],
+    pub address: [u8; 32768],
+    pub hash: [u8; 32768],
+    pub buckets: [u32; 1088],
+    pub numbers: [u64; 16],
 }
 
 // What a set-up answers.
@@ -65,18 +67,6 @@ pub struct SeenSlot {
     pub id: SlotId,
     pub ints: u8,
     pub exts: u8,
-}
-
-// An account, if there is one.
-pub struct SeenAccount {
-    pub found: bool,
-    pub account: [u8; 32],
-}
-
-// A message, if there is one.
-pub struct SeenMessage {
-    pub found: bool,
-    pub message: Message,
 }
 
 // A group that holds nothing, with room for s slots.

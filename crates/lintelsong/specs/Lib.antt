@@ -1,2 +1,2 @@
--- What the public contracts of a buffer cite.
-pub mod Buffers
+-- What the public contracts cite.
+pub mod Closed

@@ -1,4 +1,5 @@
--- What the contracts cite: the numbers of the answers, the record read, and the world of real messages for the rules.
+-- What the contracts cite: the numbers of the answers, the record read, the world of real messages for the rules, and what a walk gives.
 pub mod Answers
 pub mod Records
 pub mod Real
+pub mod Seen

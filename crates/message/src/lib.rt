@@ -20,6 +20,18 @@ pub struct Message {
     pub hash: [u8; 32],
 }
 
+// What a walk gives: an account, if there is one.
+pub struct SeenAccount {
+    pub found: bool,
+    pub account: [u8; 32],
+}
+
+// A message, if there is one.
+pub struct SeenMessage {
+    pub found: bool,
+    pub message: Message,
+}
+
 // What a kind byte says.
 pub enum Kind {
     Internal,

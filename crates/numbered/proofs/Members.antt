@@ -66,7 +66,7 @@ module _ (a : Accounts) (p : FitAccounts a) (m : List ℕ) (e : m ≡ memberW a)
 
 -- marks and costs of the order are laid over columns that are long enough
 module _ (s : Sayings) (order : List ℕ) (places : ℕ) (l : places ≤ 256) {m c : List ℕ}
-    (e : Judges (orderMarks s order places (fresh 0)) (orderCosts s order places (fresh 0)) m c) where
+    (e : Judges (orderMarks s order places (fresh 0)) (orderCosts s order places (fresh (s .cost))) m c) where
   pub marks-long : length m ≡ 1280
   unfolding orderMarks
   marks-long =
@@ -79,6 +79,6 @@ module _ (s : Sayings) (order : List ℕ) (places : ℕ) (l : places ≤ 256) {m
   unfolding orderCosts
   costs-long =
       ap length (e .cost-is)
-      ∙ length-laid 0 (tabI places 0 (λ (p : ℕ). costOf s (rowAt order p))) (fresh 0)
-      (omega (arith, length-tab places 0 (λ (p : ℕ). costOf s (rowAt order p)), length-fresh 0))
-      ∙ length-fresh 0
+      ∙ length-laid 0 (tabI places 0 (λ (p : ℕ). costOf s (rowAt order p))) (fresh (s .cost))
+      (omega (arith, length-tab places 0 (λ (p : ℕ). costOf s (rowAt order p)), length-fresh (s .cost)))
+      ∙ length-fresh (s .cost)

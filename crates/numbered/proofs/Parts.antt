@@ -44,7 +44,7 @@ homes-are a m h e f =
     ∙ ap (λ (x : List ℕ). homes (memberW a) x) (f ∙ ap (λ (x : List ℕ). housedC (a .homes) x (a .members) 0 (replicate 1280 255)) e)
 
 module _ (s : Sayings) (order : List ℕ) (places : ℕ) (group : List ℕ) (members : ℕ) (member : List ℕ) where
-  pub judged-are : {m c : List ℕ} → Judges (orderMarks s order places (replicate 1280 0)) (orderCosts s order places (replicate 1280 0)) m c
+  pub judged-are : {m c : List ℕ} → Judges (orderMarks s order places (replicate 1280 0)) (orderCosts s order places (replicate 1280 (s .cost))) m c
       → (m′ c′ : List ℕ) → Judges (groupMarks s group member members m) (groupCosts s group member members c) m′ c′
       → judged m′ c′ ≡ judgedBy s order places group members member
   judged-are e m′ c′ f =

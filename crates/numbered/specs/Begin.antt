@@ -85,7 +85,7 @@ abbrev pub markBy : Sayings → (order : List ℕ) (places : ℕ) (group : List 
 markBy s order places group members member = groupMarks s group member members (orderMarks s order places (replicate 1280 0))
 
 abbrev pub costBy : Sayings → (order : List ℕ) (places : ℕ) (group : List ℕ) (members : ℕ) (member : List ℕ) → List ℕ
-costBy s order places group members member = groupCosts s group member members (orderCosts s order places (replicate 1280 0))
+costBy s order places group members member = groupCosts s group member members (orderCosts s order places (replicate 1280 (s .cost)))
 
 abbrev pub judgedBy : Sayings → (order : List ℕ) (places : ℕ) (group : List ℕ) (members : ℕ) (member : List ℕ) → Judged
 judgedBy s order places group members member = record {

@@ -98,7 +98,7 @@ fn judge_all(
     ensures { λ r. ⌜ r ≡ judgedBy (sayings (now (set .entry)) k (now (names .entry)) (now (verdicts .entry)) (now (costs .entry)) n default) (now (order .entry)) places (now (group .entry)) members (now (member .entry)) ⌝ }
 {
     let mut mark = [0u8; 1280];
-    let mut cost = [0u64; 1280];
+    let mut cost = [default; 1280];
     entry::judge_order(
         order,
         places,

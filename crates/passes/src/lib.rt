@@ -1,5 +1,5 @@
-// The passes of a fill on lent columns of numbers: the first pass with its waiting line, the second pass, the end, and `run`, which is all
-// of it between the entry of a fill and the update of the index. `number` holds the slots' numbers by position; `listed` the numbers of the
+// The passes of a fill on lent columns of numbers: the second pass, the end, and `run`, which is the first pass (crate `openings`) and these,
+// all of it between the entry of a fill and the update of the index. `number` holds the slots' numbers by position; `listed` the numbers of the
 // slots that the index lists below the height, in its order.
 ghost use mathlib.Core.Path.{_≡_};
 ghost use mathlib.Core.List.{[]};
@@ -15,14 +15,6 @@ use walks::Walk;
 
 mod end;
 
-// Where the first pass stopped: the next place, the counts, how many slots there are, and the last number given.
-pub struct Passed {
-    pub at: usize,
-    pub tally: Tally,
-    pub slots: usize,
-    pub last: SlotId,
-}
-
 // What a run leaves besides the columns.
 pub struct Ran {
     pub tally: Tally,
@@ -31,175 +23,10 @@ pub struct Ran {
     pub dropped: usize,
 }
 
-// ---- the first pass
-
-// Whether a slot waits and an account is left to be met.
-fn waiting(at: usize, places: usize, head: usize, back: usize) -> bool
-    ensures { λ r. ⌜ r ≡ waits at places head back ⌝ }
-{
-    if at < places {
-        return head < back;
-    }
-    false
-}
-
-// Serves the waiting line, which stands in `line` up to `tail`, from its front: a slot that got an account and still has room joins it again.
-fn serve(
-    owner: &mut [u16; 1024],
-    class: &[u8; 1024],
-    taken: &mut [u16; 1024],
-    home: &mut [u8; 1280],
-    member: &mut [u16; 1280],
-    ints: &mut [u8; 64],
-    exts: &mut [u8; 64],
-    mark: &mut [u8; 1280],
-    cost: &[u64; 1280],
-    joined: &mut [u16; 1280],
-    line: &mut [u8; 320],
-    fixed: Fixed,
-    tail: usize,
-    from: usize,
-    tally: Tally,
-) -> Walk
-    requires { ⌜ Good fixed (now cost) (columns (now owner) (now taken) (now home) (now member) (now ints) (now exts) (now mark) (now joined) tally) ⌝ }
-    requires { ⌜ (length (now line) ≡ 320) × (tail ≤ 64 + from) ⌝ }
-    requires { ⌜ ((i : ℕ) → i < tail → getD (now line) i 0 < 64) ⌝ }
-    ensures { λ r. ⌜ walk (r .at) (columns (now (owner .exit)) (now (taken .exit)) (now (home .exit)) (now (member .exit)) (now (ints .exit)) (now (exts .exit)) (now (mark .exit)) (now (joined .exit)) (r .tally)) ≡ serveC (now (class .entry)) (now (cost .entry)) fixed (lineIn (now (line .entry)) 0 tail) (fixed .places - from) from (columns (now (owner .entry)) (now (taken .entry)) (now (home .entry)) (now (member .entry)) (now (ints .entry)) (now (exts .entry)) (now (mark .entry)) (now (joined .entry)) tally) ⌝ }
-{
-    let mut head: usize = 0;
-    let mut back = tail;
-    let mut at = from;
-    let mut now = tally;
-    while waiting(at, fixed.places, head, back) {
-        let slot = numbers::wide8(line[head]);
-        let moved = walks::moving(home, mark, at);
-        now = walks::meet(
-            owner,
-            class,
-            taken,
-            home,
-            member,
-            ints,
-            exts,
-            mark,
-            cost,
-            joined,
-            fixed,
-            at,
-            slot,
-            now,
-        );
-        at += 1;
-        if moved {
-            head += 1;
-            if !walks::full(ints, exts, slot, fixed.height) {
-                line[back] = slot as u8;
-                back += 1;
-            }
-        }
-    }
-    Walk { at, tally: now }
-}
-
-// The first pass: `opens` slots are to be opened behind the `slots` that stand, with the numbers behind the last; each is sought an account, and
-// one still empty at the end of the order is dropped. Then the line is served.
-fn first(
-    owner: &mut [u16; 1024],
-    class: &[u8; 1024],
-    taken: &mut [u16; 1024],
-    home: &mut [u8; 1280],
-    member: &mut [u16; 1280],
-    ints: &mut [u8; 64],
-    exts: &mut [u8; 64],
-    mark: &mut [u8; 1280],
-    cost: &[u64; 1280],
-    joined: &mut [u16; 1280],
-    number: &mut [u16; 64],
-    fixed: Fixed,
-    opens: usize,
-    slots: usize,
-    last: SlotId,
-    tally: Tally,
-) -> Passed
-    requires { ⌜ Good fixed (now cost) (columns (now owner) (now taken) (now home) (now member) (now ints) (now exts) (now mark) (now joined) tally) ⌝ }
-    requires { ⌜ (length (now number) ≡ 64) × (slots + opens ≤ 64) × (last .0 + opens ≤ 65535) ⌝ }
-    ensures { λ z. ⌜ passedC (walk (z .at) (columns (now (owner .exit)) (now (taken .exit)) (now (home .exit)) (now (member .exit)) (now (ints .exit)) (now (exts .exit)) (now (mark .exit)) (now (joined .exit)) (z .tally))) (now (number .exit)) (z .slots) (z .last .0) ≡ firstC (now (class .entry)) (now (cost .entry)) fixed opens [] (now (number .entry)) slots (last .0) 0 (columns (now (owner .entry)) (now (taken .entry)) (now (home .entry)) (now (member .entry)) (now (ints .entry)) (now (exts .entry)) (now (mark .entry)) (now (joined .entry)) tally) ⌝ }
-{
-    let mut line = [0u8; 320];
-    let mut tail: usize = 0;
-    let mut left = opens;
-    let mut at: usize = 0;
-    let mut now = tally;
-    let mut slot = slots;
-    let mut given = numbers::wide16(last.0);
-    while 0 < left {
-        let id = given + 1;
-        number[slot] = id as u16;
-        let w = walks::seek(
-            owner,
-            class,
-            taken,
-            home,
-            member,
-            ints,
-            exts,
-            mark,
-            cost,
-            joined,
-            fixed,
-            slot,
-            at,
-            now,
-        );
-        at = w.at;
-        now = w.tally;
-        if moves::held(ints, exts, slot) == 0 {
-            number[slot] = 0;
-            return Passed {
-                at,
-                tally: now,
-                slots: slot,
-                last: SlotId(id as u16),
-            };
-        }
-        if !walks::full(ints, exts, slot, fixed.height) {
-            line[tail] = slot as u8;
-            tail += 1;
-        }
-        slot += 1;
-        given = id;
-        left -= 1;
-    }
-    let w = serve(
-        owner,
-        class,
-        taken,
-        home,
-        member,
-        ints,
-        exts,
-        mark,
-        cost,
-        joined,
-        &mut line,
-        fixed,
-        tail,
-        at,
-        now,
-    );
-    let served = w.tally;
-    Passed {
-        at: w.at,
-        tally: served,
-        slots: slot,
-        last: SlotId(given as u16),
-    }
-}
-
 // ---- the second pass
 
 // The position of a slot among the first `slots`, or `slots` if it is not there.
-fn position_of(number: &[u16; 64], slots: usize, id: SlotId) -> usize
+pub fn position_of(number: &[u16; 64], slots: usize, id: SlotId) -> usize
     requires { ⌜ (slots ≤ 64) × (length (now number) ≡ 64) ⌝ }
     ensures { λ r. ⌜ r ≡ positionFrom (now (number .entry)) (id .0) slots 0 ⌝ }
 {
@@ -297,7 +124,7 @@ pub fn run(
     requires { ⌜ (count ≤ 1024) × (length (now listed) ≡ 1024) ⌝ }
     ensures { λ z. ⌜ ranC (columns (now (owner .exit)) (now (taken .exit)) (now (home .exit)) (now (member .exit)) (now (ints .exit)) (now (exts .exit)) (now (mark .exit)) (now (joined .exit)) (z .tally)) (now (number .exit)) (z .slots) (z .last .0) (z .dropped) ≡ runC (now (class .entry)) (now (cost .entry)) fixed opens (take count (now (listed .entry))) (now (number .entry)) slots (last .0) (columns (now (owner .entry)) (now (taken .entry)) (now (home .entry)) (now (member .entry)) (now (ints .entry)) (now (exts .entry)) (now (mark .entry)) (now (joined .entry)) tally) ⌝ }
 {
-    let a = first(
+    let a = openings::first(
         owner,
         class,
         taken,

@@ -1,10 +1,10 @@
 // What is printed: the echo of a line, the answer, and the state.
-ghost use Rattle.lintelsong.specs.Buffers.{GoodBuffer};
+ghost use Rattle.lintelsong.specs.Closed.{GoodBuffer};
 ghost use Rattle.scenario.specs.Desks.{GoodDesk};
 use crate::out;
 use crate::out::Pen;
-use lintelsong::buffer::Buffer;
-use lintelsong::buffer::Counts;
+use buffers::buffer::Counts;
+use lintelsong::Buffer;
 use message::Message;
 use numbers::Place;
 use scenario::desk::Desk;

@@ -189,7 +189,7 @@ module _ (W : World) (S keyRows : ℕ) (A : Args W) (b : Buffer W) (g : Group W)
       Demand3 W A b g skipped (fill W S keyRows A b g skipped) []
   demand-3 L once sound tidy h = rw accepts (record {
     parted = parted W L A b g skipped once;
-    notPast = not-past W L A b g skipped once;
+    notPast = not-past W L A b g skipped;
     few = omega arith;
     served = served W L A b g skipped once sound h tidy;
   })

@@ -89,20 +89,24 @@ module _ (W : World) (L : Lawful W) where
   length-accounts [] = refl
   length-accounts (r ∷ o) = ap suc (length-accounts o)
 
-  fits-fill : (M K : ℕ) (A : Args W) (b : Buffer W) (g : Group W) (skipped : List (W .Acc)) → FitsBuffer W M K b → FitsBuffer W M K (accepted W A b g skipped .buffer)
+  -- after an accepted fill the buffer holds no more messages and no more accounts
+  pub fewer-fill : (A : Args W) (b : Buffer W) (g : Group W) (skipped : List (W .Acc)) →
+      (length (allMsgs W (accepted W A b g skipped .buffer .order)) ≤ length (allMsgs W (b .order))) × (length (accepted W A b g skipped .buffer .order) ≤ length (b .order))
   unfolding accepted bufferAfter entered
-  fits-fill M K A b g skipped f =
-      let q = fits-keep M K _ (ended W A b g skipped .order)
+  fewer-fill A b g skipped = fits-keep (length (allMsgs W (b .order))) (length (b .order)) _ (ended W A b g skipped .order)
       (omega (
         arith,
         taken-fill W (λ m. not (W .external m)) A L b g skipped,
         taken-fill W (W .external) A L b g skipped,
         keep-both (W .external) (allMsgs W (ended W A b g skipped .order)),
         keep-both (W .external) (allMsgs W (b .order)),
-        f .messages,
       ))
-      (omega (arith, ap length (R-ended W L A 0 (Order W L A) (order-steps W L A 0) b g skipped (omega arith)), length-accounts (ended W A b g skipped .order), length-accounts (b .order), f .accounts)) in
-      record { messages = q .0; accounts = q .1 }
+      (omega (arith, ap length (R-ended W L A 0 (Order W L A) (order-steps W L A 0) b g skipped (omega arith)), length-accounts (ended W A b g skipped .order), length-accounts (b .order)))
+
+  fits-fill : (M K : ℕ) (A : Args W) (b : Buffer W) (g : Group W) (skipped : List (W .Acc)) → FitsBuffer W M K b → FitsBuffer W M K (accepted W A b g skipped .buffer)
+  fits-fill M K A b g skipped f =
+      let q = fewer-fill A b g skipped in
+      record { messages = omega (arith, q .0, f .messages); accounts = omega (arith, q .1, f .accounts) }
 
   fits-none : (M A : ℕ) → FitsBuffer W M A (noMessages W)
   unfolding noMessages allMsgs joined

@@ -99,28 +99,35 @@ module _ (W : World) (L : Lawful W) (A : Args W) where
       ap atLeast0 (R-sweep W L A Last last-moves (w2 .rest) (w2 .now)),
     )
 
-    slots-fit : (S keyRows : ℕ) → fillCode W S keyRows A b g skipped ≡ 0 → length (g .slots) ≤ S → length (accepted W A b g skipped .group .slots) ≤ S
-    unfolding accepted groupAfter fillCode toOpen
-    slots-fit S keyRows ok h = omega (arith, ended-length, not-above S (A .asked) (or-false (ltb S (A .asked)) _ (first-code _ 9 _ (λ e. omega arith) ok .0) .0))
-
-    last-fits : (S keyRows : ℕ) → fillCode W S keyRows A b g skipped ≡ 0 → atLeast0 (g .last) ≤ 65535 → atLeast0 (accepted W A b g skipped .group .last) ≤ 65535
-    unfolding accepted groupAfter fillCode
-    last-fits S keyRows ok h = ended-last 65535 h (elim (decLe (toOpen W A (g .slots)) 0) [
-      | yes z ↦ omega arith
-      | no z ↦ omega (arith, not-above 65535 (atLeast0 (g .last) + toOpen W A (g .slots)) (both (ltb 0 (toOpen W A (g .slots))) _ (pos (toOpen W A (g .slots)) (omega arith)) c12))
-    ])
-      where
-        c12 : (ltb 0 (toOpen W A (g .slots)) && ltb 65535 (atLeast0 (g .last) + toOpen W A (g .slots))) ≡ false
-        c12 = first-code _ 12 _ (λ e. omega arith) (first-code _ 11 _ (λ e. omega arith) (first-code _ 10 _ (λ e. omega arith) (first-code _ 9 _ (λ e. omega arith) ok .1) .1) .1) .0
-
-        both : (x y : Bool) → x ≡ true → (x && y) ≡ false → y ≡ false
-        both true y p q = q
-        both false y p q = clash false p refl
-
-        pos : (n : ℕ) → 0 < n → ltb 0 n ≡ true
-        pos n p = elim (which (ltb 0 n)) [ inl e ↦ e | inr e ↦ absurd (omega (arith, not-above 0 n e)) ]
-
 module _ (W : World) (L : Lawful W) where
+  -- ---- an accepted fill
+  pub slots-fill : (S keyRows : ℕ) (A : Args W) (b : Buffer W) (g : Group W) (skipped : List (W .Acc)) → fillCode W S keyRows A b g skipped ≡ 0 → length (g .slots) ≤ S →
+      length (accepted W A b g skipped .group .slots) ≤ S
+  unfolding accepted groupAfter fillCode toOpen
+  slots-fill S keyRows A b g skipped ok h = omega (
+    arith,
+    ended-length W L A b g skipped,
+    not-above S (A .asked) (or-false (ltb S (A .asked)) _ (first-code _ 9 _ (λ e. omega arith) ok .0) .0),
+  )
+
+  pub last-fill : (S keyRows : ℕ) (A : Args W) (b : Buffer W) (g : Group W) (skipped : List (W .Acc)) → fillCode W S keyRows A b g skipped ≡ 0 → atLeast0 (g .last) ≤ 65535 →
+      atLeast0 (accepted W A b g skipped .group .last) ≤ 65535
+  unfolding accepted groupAfter fillCode
+  last-fill S keyRows A b g skipped ok h = ended-last W L A b g skipped 65535 h (elim (decLe (toOpen W A (g .slots)) 0) [
+    | yes z ↦ omega arith
+    | no z ↦ omega (arith, not-above 65535 (atLeast0 (g .last) + toOpen W A (g .slots)) (both (ltb 0 (toOpen W A (g .slots))) _ (pos (toOpen W A (g .slots)) (omega arith)) c12))
+  ])
+    where
+      c12 : (ltb 0 (toOpen W A (g .slots)) && ltb 65535 (atLeast0 (g .last) + toOpen W A (g .slots))) ≡ false
+      c12 = first-code _ 12 _ (λ e. omega arith) (first-code _ 11 _ (λ e. omega arith) (first-code _ 10 _ (λ e. omega arith) (first-code _ 9 _ (λ e. omega arith) ok .1) .1) .1) .0
+
+      both : (x y : Bool) → x ≡ true → (x && y) ≡ false → y ≡ false
+      both true y p q = q
+      both false y p q = clash false p refl
+
+      pos : (n : ℕ) → 0 < n → ltb 0 n ≡ true
+      pos n p = elim (which (ltb 0 n)) [ inl e ↦ e | inr e ↦ absurd (omega (arith, not-above 0 n e)) ]
+
   -- ---- a join
   length-new : (k : ℕ) (ss : List (Slot W)) → length (renumbered W k ss) ≡ length ss
   unfolding renumbered
@@ -171,9 +178,9 @@ module _ (W : World) (L : Lawful W) where
   fits-target (filled {s = s} {t = t} A keys skipped e d c) = subst (FitsTarget W) (sym e) (record {
     S·range = fits-target c .S·range;
     slots = fill-either W L (λ f. length (f .group .slots) ≤ t .S) (t .S) (length keys) A (s .now) (t .now) skipped
-        (λ ok. slots-fit W L A (s .now) (t .now) skipped (t .S) (length keys) ok (fits-target c .slots)) (λ x. fits-target c .slots);
+        (λ ok. slots-fill (t .S) (length keys) A (s .now) (t .now) skipped ok (fits-target c .slots)) (λ x. fits-target c .slots);
     last = fill-either W L (λ f. atLeast0 (f .group .last) ≤ 65535) (t .S) (length keys) A (s .now) (t .now) skipped
-        (λ ok. last-fits W L A (s .now) (t .now) skipped (t .S) (length keys) ok (fits-target c .last)) (λ x. fits-target c .last);
+        (λ ok. last-fill (t .S) (length keys) A (s .now) (t .now) skipped ok (fits-target c .last)) (λ x. fits-target c .last);
   })
   fits-target (joinedLeft {l = l} {r = r} e d c) = subst (FitsTarget W) (sym e) (fits-both l r (fits-target d) (fits-target c) .0)
   fits-target (joinedRight {l = l} {r = r} e d c) = subst (FitsTarget W) (sym e) (fits-both l r (fits-target d) (fits-target c) .1)

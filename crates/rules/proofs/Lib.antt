@@ -1,5 +1,5 @@
 -- What is proved about the rules. The theorems that others use: `Worked` (the tables), `Reached` (what calls keep, demand 3, refusals),
--- `Facts`, `Fits`, `FitsGroup`, `SkippedSet`, `Taken` (what holds of all that calls make), `Transaction`, `Unique`, and the Rename files.
+-- `Facts`, `Fits`, `FitsGroup`, `RoomFill`, `SkippedSet`, `Taken` (what holds of all that calls make), `Transaction`, `Unique`, and the Rename files.
 pub mod Worked
 pub mod Rows
 pub mod Slots
@@ -26,5 +26,6 @@ pub mod Transaction
 pub mod Taken
 pub mod Fits
 pub mod FitsGroup
+pub mod RoomFill
 pub mod Facts
 pub mod SkippedSet

@@ -45,14 +45,20 @@ module _ (W : World) (L : Lawful W) where
     | inr e ↦ rw e (p (fillCode W S keyRows A b g skipped))
   ]
 
-  group-fill : (S keyRows : ℕ) (A : Args W) (b : Buffer W) (g : Group W) (skipped : List (W .Acc)) → TidyBuffer W b → TidyGroup W g → TidyGroup W (fill W S keyRows A b g skipped .group)
+  pub tidy-group-fill : (S keyRows : ℕ) (A : Args W) (b : Buffer W) (g : Group W) (skipped : List (W .Acc)) → TidyGroup W g → fillCode W S keyRows A b g skipped ≡ 0 →
+      TidyGroup W (accepted W A b g skipped .group)
+  tidy-group-fill S keyRows A b g skipped tg ok =
+      let low = low-height W S keyRows A b g skipped ok in
+      record {
+        sound = sound-fill W L A b g skipped (tg .sound) low;
+        tidy = tidy-fill W L A b g skipped (tg .sound) (tg .tidy);
+        index = index-fill W L A b g skipped (tg .sound) low (tg .index);
+        filled = filled-fill W L A b g skipped (tg .sound) low (tg .filled);
+      }
+
+  group-fill : (S keyRows : ℕ) (A : Args W) (b : Buffer W) (g : Group W) (skipped : List (W .Acc)) → TidyGroup W g → TidyGroup W (fill W S keyRows A b g skipped .group)
   unfolding refused
-  group-fill S keyRows A b g skipped tb tg = fill-either (λ f. TidyGroup W (f .group)) S keyRows A b g skipped (λ ok. record {
-    sound = sound-fill W L A b g skipped (tb .once) (tg .sound) (low-height W S keyRows A b g skipped ok);
-    tidy = tidy-fill W L A b g skipped (tg .sound) (tg .tidy);
-    index = index-fill W L A b g skipped (tb .once) (tg .sound) (low-height W S keyRows A b g skipped ok) (tg .index);
-    filled = filled-fill W L A b g skipped (tb .once) (tg .sound) (low-height W S keyRows A b g skipped ok) (tg .filled);
-  }) (λ c. tg)
+  group-fill S keyRows A b g skipped tg = fill-either (λ f. TidyGroup W (f .group)) S keyRows A b g skipped (tidy-group-fill S keyRows A b g skipped tg) (λ c. tg)
 
   store-fill : (S keyRows : ℕ) (A : Args W) (b : Buffer W) (g : Group W) (skipped : List (W .Acc)) → TidyBuffer W b → TidyBuffer W (fill W S keyRows A b g skipped .buffer)
   unfolding refused
@@ -105,26 +111,25 @@ module _ (W : World) (L : Lawful W) where
   unfolding withNow
   changed s b t tb = record { now = tb; kept = t .kept }
 
-  -- ---- any calls
-  mutual
-    unfolding setUpBuffer setUpGroup addMessage removeAccounts begin commit rollback fillGroup
+  -- ---- any calls; no mutual recursion: a fill keeps its buffer whatever the group, and its group whatever the buffer
+  pub tidy-store : {s : Store W} → MadeStore W s → TidyStore W s
+  unfolding setUpBuffer addMessage removeAccounts begin commit rollback fillGroup
+  tidy-store (setUp M A e) = subst (TidyStore W) (sym e) (either (TidyStore W) _ _ _ (λ ok. fresh-store M A) (fresh-store 1 1))
+  tidy-store (added {s = s} o e d) = subst (TidyStore W) (sym e) (either (TidyStore W) _ _ s (λ ok. changed s _ (tidy-store d) (buffer-add W L (o .acc) (o .msg) (s .now) (tidy-store d .now))) (tidy-store d))
+  tidy-store (removed {s = s} names e d) = subst (TidyStore W) (sym e) (either (TidyStore W) _ _ s (λ ok. changed s _ (tidy-store d) (buffer-remove W L names (s .now) (tidy-store d .now))) (tidy-store d))
+  tidy-store (begun {s = s} e d) = subst (TidyStore W) (sym e) (either (TidyStore W) _ _ s
+      (λ ok. record { now = tidy-store d .now; kept = λ b q. subst (TidyBuffer W) (same-some q) (tidy-store d .now) }) (tidy-store d))
+  tidy-store (committed {s = s} e d) = subst (TidyStore W) (sym e) (either (TidyStore W) _ _ s (λ ok. record { now = tidy-store d .now; kept = λ b q. no-some q }) (tidy-store d))
+  tidy-store (rolledBack {s = s} e d) = subst (TidyStore W) (sym e) (either (TidyStore W) _ _ s
+      (λ ok. record { now = given-back (s .kept) (s .now) (tidy-store d .kept) (tidy-store d .now); kept = λ b q. no-some q }) (tidy-store d))
+  tidy-store (emptied {s = s} {t = t} A keys skipped e d c) = subst (TidyStore W) (sym e) (changed s _ (tidy-store d) (store-fill (t .S) (length keys) A (s .now) (t .now) skipped (tidy-store d .now)))
 
-    pub tidy-store : {s : Store W} → MadeStore W s → TidyStore W s
-    tidy-store (setUp M A e) = subst (TidyStore W) (sym e) (either (TidyStore W) _ _ _ (λ ok. fresh-store M A) (fresh-store 1 1))
-    tidy-store (added {s = s} o e d) = subst (TidyStore W) (sym e) (either (TidyStore W) _ _ s (λ ok. changed s _ (tidy-store d) (buffer-add W L (o .acc) (o .msg) (s .now) (tidy-store d .now))) (tidy-store d))
-    tidy-store (removed {s = s} names e d) = subst (TidyStore W) (sym e) (either (TidyStore W) _ _ s (λ ok. changed s _ (tidy-store d) (buffer-remove W L names (s .now) (tidy-store d .now))) (tidy-store d))
-    tidy-store (begun {s = s} e d) = subst (TidyStore W) (sym e) (either (TidyStore W) _ _ s
-        (λ ok. record { now = tidy-store d .now; kept = λ b q. subst (TidyBuffer W) (same-some q) (tidy-store d .now) }) (tidy-store d))
-    tidy-store (committed {s = s} e d) = subst (TidyStore W) (sym e) (either (TidyStore W) _ _ s (λ ok. record { now = tidy-store d .now; kept = λ b q. no-some q }) (tidy-store d))
-    tidy-store (rolledBack {s = s} e d) = subst (TidyStore W) (sym e) (either (TidyStore W) _ _ s
-        (λ ok. record { now = given-back (s .kept) (s .now) (tidy-store d .kept) (tidy-store d .now); kept = λ b q. no-some q }) (tidy-store d))
-    tidy-store (emptied {s = s} {t = t} A keys skipped e d c) = subst (TidyStore W) (sym e) (changed s _ (tidy-store d) (store-fill (t .S) (length keys) A (s .now) (t .now) skipped (tidy-store d .now)))
-
-    pub tidy-target : {t : Target W} → MadeTarget W t → TidyGroup W (t .now)
-    tidy-target (setUpTarget S e) = subst (λ t. TidyGroup W (t .now)) (sym e) (either (λ (t : Target W). TidyGroup W (t .now)) _ _ _ (λ ok. tidy-fresh W) (tidy-fresh W))
-    tidy-target (filled {s = s} {t = t} A keys skipped e d c) = subst (λ t. TidyGroup W (t .now)) (sym e) (group-fill (t .S) (length keys) A (s .now) (t .now) skipped (tidy-store d .now) (tidy-target c))
-    tidy-target (joinedLeft {l = l} {r = r} e d c) = subst (λ t. TidyGroup W (t .now)) (sym e) (join-both l r (tidy-target d) (tidy-target c) .0)
-    tidy-target (joinedRight {l = l} {r = r} e d c) = subst (λ t. TidyGroup W (t .now)) (sym e) (join-both l r (tidy-target d) (tidy-target c) .1)
+  pub tidy-target : {t : Target W} → MadeTarget W t → TidyGroup W (t .now)
+  unfolding setUpGroup fillGroup
+  tidy-target (setUpTarget S e) = subst (λ t. TidyGroup W (t .now)) (sym e) (either (λ (t : Target W). TidyGroup W (t .now)) _ _ _ (λ ok. tidy-fresh W) (tidy-fresh W))
+  tidy-target (filled {s = s} {t = t} A keys skipped e d c) = subst (λ t. TidyGroup W (t .now)) (sym e) (group-fill (t .S) (length keys) A (s .now) (t .now) skipped (tidy-target c))
+  tidy-target (joinedLeft {l = l} {r = r} e d c) = subst (λ t. TidyGroup W (t .now)) (sym e) (join-both l r (tidy-target d) (tidy-target c) .0)
+  tidy-target (joinedRight {l = l} {r = r} e d c) = subst (λ t. TidyGroup W (t .now)) (sym e) (join-both l r (tidy-target d) (tidy-target c) .1)
 
   -- ---- demand 3
   code-is : (S keyRows : ℕ) (A : Args W) (b : Buffer W) (g : Group W) (skipped : List (W .Acc)) → fill W S keyRows A b g skipped .code ≡ fillCode W S keyRows A b g skipped

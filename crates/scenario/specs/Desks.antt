@@ -1,5 +1,5 @@
 -- When a desk is well formed. Assumes nothing.
-use Rattle.lintelsong.specs.Buffers.{GoodBuffer}
+use Rattle.lintelsong.specs.Closed.{GoodBuffer}
 use Rattle.scenario.specs.declared.desk.Desk.{Desk}
 
 -- a desk is well formed if its buffer is

@@ -1,10 +1,10 @@
 // All that a scenario works on, and each command done.
-ghost use Rattle.lintelsong.specs.Buffers.{GoodBuffer};
+ghost use Rattle.lintelsong.specs.Closed.{GoodBuffer};
 ghost use Rattle.scenario.specs.Desks.{GoodDesk};
 use crate::commands::Command;
 use crate::commands::Record;
-use lintelsong::buffer::Answer;
-use lintelsong::buffer::Buffer;
+use lintelsong::Buffer;
+use lintelsong::buffer_calls::Answer;
 use message::Form;
 use message::Message;
 

@@ -95,14 +95,25 @@ module _ (r b i : ℕ) (ns : List ℕ) where
         count-at 5 (λ e. omega arith) (λ e. omega arith)
         ∙ getD-set-same (set (set (set ns 2 r) 3 b) 4 i) 5 (r - i) 0 (omega (arith, length-set (set (set ns 2 r) 3 b) 4 i, length-set (set ns 2 r) 3 b, length-set ns 2 r))
 
-    -- the minimum is cleared exactly if no account is left
-    pub least-left : ifMarked (getD (leftCounts r b i ns) 7 0) (getD (leftCounts r b i ns) 6 0) ≡ cond (eqb b 0) none (ifMarked (getD ns 7 0) (getD ns 6 0))
+    -- the minimum and its mark, cleared exactly if no account is left
+    pub count-6 : getD (leftCounts r b i ns) 6 0 ≡ cond (eqb b 0) 0 (getD ns 6 0)
     unfolding leftCounts
-    least-left =
+    count-6 =
         let wide = length-set (set (set (set ns 2 r) 3 b) 4 i) 5 (r - i) ∙ length-set (set (set ns 2 r) 3 b) 4 i ∙ length-set (set ns 2 r) 3 b ∙ length-set ns 2 r in
         byBool (eqb b 0)
-        (λ e. rw (e, getD-set-same (set kept 6 0) 7 0 0 (omega (arith, wide, length-set kept 6 0))))
-        (λ e. rw (e, kept-at 7 (λ z. omega arith) (λ z. omega arith) (λ z. omega arith) (λ z. omega arith), kept-at 6 (λ z. omega arith) (λ z. omega arith) (λ z. omega arith) (λ z. omega arith)))
+        (λ e. rw e (getD-set-other (set kept 6 0) 7 6 0 0 (λ z. omega arith) ∙ getD-set-same kept 6 0 0 (omega (arith, wide))))
+        (λ e. rw e (kept-at 6 (λ z. omega arith) (λ z. omega arith) (λ z. omega arith) (λ z. omega arith)))
+
+    pub count-7 : getD (leftCounts r b i ns) 7 0 ≡ cond (eqb b 0) 0 (getD ns 7 0)
+    unfolding leftCounts
+    count-7 =
+        let wide = length-set (set (set (set ns 2 r) 3 b) 4 i) 5 (r - i) ∙ length-set (set (set ns 2 r) 3 b) 4 i ∙ length-set (set ns 2 r) 3 b ∙ length-set ns 2 r in
+        byBool (eqb b 0)
+        (λ e. rw e (getD-set-same (set kept 6 0) 7 0 0 (omega (arith, wide, length-set kept 6 0))))
+        (λ e. rw e (kept-at 7 (λ z. omega arith) (λ z. omega arith) (λ z. omega arith) (λ z. omega arith)))
+
+    pub least-left : ifMarked (getD (leftCounts r b i ns) 7 0) (getD (leftCounts r b i ns) 6 0) ≡ cond (eqb b 0) none (ifMarked (getD ns 7 0) (getD ns 6 0))
+    least-left = rw (count-7, count-6) (byBool (eqb b 0) (λ e. rw e) (λ e. rw e))
 
 -- ---- the seats
 
@@ -124,16 +135,16 @@ module _ {ext : ℕ → Bool} {time : ℕ → ℕ} {f : Renaming (Numbers ext ti
   abbrev pub before : Cols
   before = withOwners (number c 2) left c
 
-  few : number c 2 ≤ 1024
+  pub few : number c 2 ≤ 1024
   few = omega (arith, v .good .now .messages, v .good .M·high)
 
   seated : number c 3 ≤ 256
   seated = omega (arith, v .good .now .places, v .good .A·high)
 
-  taken-long : length (take (number c 2) left) ≡ number c 2
+  pub taken-long : length (take (number c 2) left) ≡ number c 2
   taken-long = length-take-le (number c 2) left (omega (arith, v .long, few))
 
-  fits : 0 + length (take (number c 2) left) ≤ length (c .owner)
+  pub fits : 0 + length (take (number c 2) left) ≤ length (c .owner)
   fits = omega (arith, taken-long, few, v .good .lengths .owner)
 
   pub owner-at : (i : ℕ) → i < number c 2 → getD (before .owner) i 0 ≡ getD left i 0
@@ -236,7 +247,7 @@ module _ {ext : ℕ → Bool} {time : ℕ → ℕ} {f : Renaming (Numbers ext ti
   pub number-stays : (k : ℕ) → (k ≡ 2 → ⊥) → (k ≡ 3 → ⊥) → (k ≡ 4 → ⊥) → (k ≡ 5 → ⊥) → (k ≡ 6 → ⊥) → (k ≡ 7 → ⊥) → getD countsLeft k 0 ≡ number c k
   number-stays = count-stays messagesLeft placesLeft _ (c .numbers)
 
-  kept-stays : keptHalf (withNumbers countsLeft made) ≡ keptHalf c
+  pub kept-stays : keptHalf (withNumbers countsLeft made) ≡ keptHalf c
   kept-stays =
       let owner = drop-laid 0 (take (number c 2) left) (c .owner) fits 1024 (omega (arith, taken-long, few)) in
       let messages = number-stays 9 (λ e. omega arith) (λ e. omega arith) (λ e. omega arith) (λ e. omega arith) (λ e. omega arith) (λ e. omega arith) in

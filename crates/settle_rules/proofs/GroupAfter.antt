@@ -71,7 +71,7 @@ module _ {ext : ℕ → Bool} {time : ℕ → ℕ} {f : Renaming (Numbers ext ti
 
   -- ---- the messages
 
-  wide : (col : List ℕ) → length col ≡ 65536 → (k : ℕ) → k < n → length (rowAt col (getD rows k 0)) ≡ 32
+  pub wide : (col : List ℕ) → length col ≡ 65536 → (k : ℕ) → k < n → length (rowAt col (getD rows k 0)) ≡ 32
   wide col e k l = length-row col (getD rows k 0) (omega (arith, v .there k l, v .few))
 
   module _ (j : ℕ) (l : j < count t 3) where
@@ -167,12 +167,21 @@ module _ {ext : ℕ → Bool} {time : ℕ → ℕ} {f : Renaming (Numbers ext ti
       (λ e. absurd (keep-some (λ i. eqb (getD owner i 0) (takenFrom p)) n k rows l (omega (arith, v .taken-long)) mine (w .loose p small (eqb-true _ _ e))))
       (λ e. w .housed p small ∙ ap not e)
 
+  -- whose place in the group is the row's seat
+  seated : (k : ℕ) (l : k < n) → getD (seatedBy all member seat₀) (partyOf k) 0 ≡ among ext time (partyOf k) all member (housed-at k l) .at
+  seated k l =
+      let r = among ext time (partyOf k) all member (housed-at k l) in
+      ap (λ (p : ℕ). getD (seatedBy all member seat₀) p 0) (sym (r .is))
+      ∙ seat-of all member seat₀ (w .once) (λ x a. omega (arith, w .parties x a, s .seats-long)) (r .at) (r .low)
+
+  pub seat-low : (k : ℕ) → k < n → getD (seatedBy all member seat₀) (partyOf k) 0 < all
+  seat-low k l = omega (arith, seated k l, among ext time (partyOf k) all member (housed-at k l) .low)
+
   seat-told : (g k : ℕ) → g < all → k < n
       → eqb (getD (seatedBy all member seat₀) (partyOf k) 0) g ≡ eqb (getD owner (getD rows k 0) 0) (takenFrom (getD member g 0))
   seat-told g k h l =
       let r = among ext time (partyOf k) all member (housed-at k l) in
-      let seat = seat-of all member seat₀ (w .once) (λ x a. omega (arith, w .parties x a, s .seats-long)) in
-      let here : getD (seatedBy all member seat₀) (partyOf k) 0 ≡ r .at = ap (λ (p : ℕ). getD (seatedBy all member seat₀) p 0) (sym (r .is)) ∙ seat (r .at) (r .low) in
+      let here = seated k l in
       byBool (eqb (r .at) g)
       (λ e. let z = eqb-true (r .at) g e in
       ap (λ (x : ℕ). eqb x g) here ∙ e

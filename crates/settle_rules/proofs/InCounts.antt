@@ -4,7 +4,7 @@ use mathlib.Core.Path.{_≡_, refl, sym, ap, ap₂, _∙_}
 use mathlib.Core.Bool.{cond}
 use mathlib.Core.List.{List}
 use mathlib.Core.Option.{Option, some}
-use Prim.Native.Nat.{ℕ, zero, suc, _+_, _-_}
+use Prim.Native.Nat.{ℕ, zero, suc, _+_, _-_, _≤_}
 use native.Mathlib.Omega.{arith}
 use lib.Dec.{eqb}
 use lib.ListN.{length, getD, set, length-set}
@@ -51,7 +51,25 @@ module _ (slots accounts n i k last : ℕ) (ns : List ℕ) where
   pub in-0 : getD made 0 0 ≡ getD ns 0 0
   in-0 = held-at 0 (λ e. omega arith) (λ e. omega arith) ∙ entry-at 0 (λ e. omega arith) (λ e. omega arith) (λ e. omega arith) (λ e. omega arith) (λ e. omega arith)
 
+  -- where no slots were to be opened the last number stays, and what stands behind it stays in any case
+  pub in-still : (j : ℕ) → 6 ≤ j → k ≡ 0 → getD made j 0 ≡ getD ns j 0
+  unfolding inCounts
+  in-still j l e = rw (eq-eqb k 0 e) (entry-at j (λ z. omega arith) (λ z. omega arith) (λ z. omega arith) (λ z. omega arith) (λ z. omega arith))
+
+  pub in-rest : (j : ℕ) → 8 ≤ j → getD made j 0 ≡ getD ns j 0
+  in-rest j l =
+      held-at j (λ z. omega arith) (λ z. omega arith)
+      ∙ entry-at j (λ z. omega arith) (λ z. omega arith) (λ z. omega arith) (λ z. omega arith) (λ z. omega arith)
+
   module _ (long : length ns ≡ 16) where
+    pub in-6 : (k ≡ 0 → ⊥) → getD made 6 0 ≡ last
+    unfolding inCounts
+    in-6 h = rw (ne-eqb k 0 h) (getD-set-other (set held 6 last) 7 6 1 0 (λ e. omega arith) ∙ getD-set-same held 6 last 0 (omega (arith, held-long)))
+
+    pub in-7 : (k ≡ 0 → ⊥) → getD made 7 0 ≡ 1
+    unfolding inCounts
+    in-7 h = rw (ne-eqb k 0 h) (getD-set-same (set held 6 last) 7 1 0 (omega (arith, held-long, length-set held 6 last)))
+
     pub in-1 : getD made 1 0 ≡ slots
     in-1 =
         held-at 1 (λ e. omega arith) (λ e. omega arith)
@@ -91,18 +109,8 @@ module _ (slots accounts n i k last : ℕ) (ns : List ℕ) where
 -- the last number: some slots were to be opened, or none
 pub in-last : (slots accounts n i k last : ℕ) (ns : List ℕ) → length ns ≡ 16
     → ifMarked (getD (inCounts slots accounts n i k last ns) 7 0) (getD (inCounts slots accounts n i k last ns) 6 0) ≡ lastAfter k (ifMarked (getD ns 7 0) (getD ns 6 0)) last
-unfolding inCounts lastAfter
+unfolding lastAfter
 in-last slots accounts n i zero last ns long =
-    rw (
-      entry-at slots accounts n i zero last ns 7 (λ e. omega arith) (λ e. omega arith) (λ e. omega arith) (λ e. omega arith) (λ e. omega arith),
-      entry-at slots accounts n i zero last ns 6 (λ e. omega arith) (λ e. omega arith) (λ e. omega arith) (λ e. omega arith) (λ e. omega arith),
-    )
+    rw (in-still slots accounts n i zero last ns 7 (omega arith) refl, in-still slots accounts n i zero last ns 6 (omega arith) refl)
 in-last slots accounts n i (suc k) last ns long =
-    let wide = held-long slots accounts n i (suc k) last ns in
-    let h = held slots accounts n i (suc k) last ns in
-    rw (
-      ne-eqb (suc k) 0 (λ e. omega arith),
-      getD-set-same (set h 6 last) 7 1 0 (omega (arith, wide, length-set h 6 last)),
-      getD-set-other (set h 6 last) 7 6 1 0 (λ e. omega arith),
-      getD-set-same h 6 last 0 (omega (arith, wide)),
-    )
+    rw (in-7 slots accounts n i (suc k) last ns long (λ e. omega arith), in-6 slots accounts n i (suc k) last ns long (λ e. omega arith))

@@ -106,7 +106,7 @@ sweep-traced {f} {s₀} {s} class q fit h = record {
 abbrev Kept : (f : Fixed) (cost : List ℕ) (m₀ m : Columns) → Type 0
 Kept f cost m₀ m = Good f cost m × Traced f m₀ m
 
-steps : (class cost : List ℕ) (f : Fixed) (m₀ : Columns) → f .places ≤ 256 → Steps class cost f (Kept f cost m₀) (Traced f m₀)
+steps : (class cost : List ℕ) (f : Fixed) (m₀ : Columns) → f .places ≤ 256 → Steps class cost f 64 (Kept f cost m₀) (Traced f m₀)
 steps class cost f m₀ fit = record {
   check = λ p l m h. (check-keeps (h .0) class p l, check-traced (h .0) (h .1) p l);
   pass = λ p l m h. (pass-keeps (h .0) class p l, record { store = pass-traced class p l (h .1 .store); joined = h .1 .joined });

@@ -27,7 +27,7 @@ unfolding tabI
 wide-tab f zero i h = tt
 wide-tab f (suc m) i h = (h i (omega arith) (omega arith), wide-tab f m (i + 1) (λ j a l. h j (omega arith) (omega arith)))
 
-party-long : (accounts others : List ℕ) (p : ℕ) → length accounts ≡ 16384 → length others ≡ 32768 → p < 1280 → length (partyRow accounts others p) ≡ 32
+pub party-long : (accounts others : List ℕ) (p : ℕ) → length accounts ≡ 16384 → length others ≡ 32768 → p < 1280 → length (partyRow accounts others p) ≡ 32
 party-long accounts others p a o l =
     byBool (ltb p 256)
     (λ e. let h = ltb-true p 256 e in ap length (party-low accounts others p h) ∙ length-row accounts p (omega arith))

@@ -7,22 +7,29 @@ use mathlib.Core.List.{List, map}
 use Prim.Native.Nat.{ℕ, _+_, _-_, _*_, _<_, _≤_}
 use lib.Dec.{eqb}
 use lib.ListN.{length, getD}
-use Rattle.columns.specs.Lists.{tabI, pick}
+use Rattle.columns.specs.Lists.{tabI, pick, rank}
 use Rattle.columns.specs.Laid.{laidAt}
 use Rattle.columns.specs.Rows.{rowAt, rowsOf}
+use Rattle.rules.specs.Fill.{reindexed, groupInts, groupExts}
+use Rattle.rules.specs.Kept.{TidyGroup}
 use Rattle.message.specs.Real.{Real, Key, keyOf}
 use Rattle.queues.specs.Cols.{Cols, live, number}
 use Rattle.queues.specs.Meant.{messageIn}
-use Rattle.queues.specs.Good.{Good}
+use Rattle.queues.specs.Good.{Zeros, Good}
 use Rattle.queues.specs.Good.{Long as Cols-long}
+use Rattle.buckets.specs.Cells.{index}
+use Rattle.buckets.specs.Moves.{Plain, Leaves}
+use Rattle.buckets.specs.Moves.{slotsOf as plainSlots}
 use Rattle.slots.specs.Table.{Table, count}
-use Rattle.slots.specs.Meant.{listed}
+use Rattle.slots.specs.Meant.{listed, groupOf}
 use Rattle.slots.specs.Good.{Good as GroupGood}
 use Rattle.moves.specs.declared.Fixed.{Fixed}
 use Rattle.moves.specs.Moves.{Store, nowhere}
 use Rattle.meaning.specs.Meaning.{Numbers, Columns, Setting}
+use Rattle.meaning.specs.Passes.{RanC}
 use Rattle.renaming.specs.Renaming.{Renaming}
-use Rattle.settle.specs.Copies.{partyRow, seatsAt, seatedBy, Fields, Bodies, Entered}
+use Rattle.settle.specs.Copies.{partyRow, seatsAt, seatedBy, isKey, Fields, Bodies, Entered}
+use Rattle.settle.specs.Ends.{inCounts}
 
 -- ---- the buffer
 
@@ -80,6 +87,51 @@ pub record GroupSettled (t t′ : Table) (c : Cols) (m : Columns) (seat₀ : Lis
   pub messages : count t′ 3 ≡ count t 3 + m .store .tally .taken
   pub accounts : count t′ 2 ≡ m .store .tally .accounts
 
+-- the counts of the slots, by position; those behind them hold nothing
+abbrev pub heldBy : (n : ℕ) (ints exts : List ℕ) → List ℕ
+heldBy n ints exts = tabI n 0 (λ j. getD ints j 0 + getD exts j 0)
+
+-- what the end of a fill did to a group's columns: t before, t′ after, x what the run left, k slots were to be opened
+pub record TableSettled (t t′ : Table) (c : Cols) (x : RanC) (k : ℕ) (seat₀ : List ℕ) : Type 0 where
+  pub fields : Fields (x .now .store .tally .taken) (x .now .store .taken) (count t 3) (c .kind) (c .form) (c .time) (t .kind) (t .form) (t .time)
+      (t′ .kind) (t′ .form) (t′ .time)
+  pub bodies : Bodies (x .now .store .tally .taken) (x .now .store .taken) (count t 3) (c .address) (c .hash) (t .address) (t .hash)
+      (t′ .address) (t′ .hash)
+  pub owners : t′ .owner
+      ≡ laidAt (count t 3)
+      (seatsAt (x .now .store .tally .taken) (x .now .store .taken) (x .now .store .owner) (seatedBy (x .now .store .tally .accounts) (x .now .store .member) seat₀))
+      (t .owner)
+  pub entered : Entered (count t 2) (x .now .store .tally .accounts - count t 2) (x .now .store .member) (c .accounts) (x .now .store .home)
+      (t .accounts) (t .home) (t′ .accounts) (t′ .home)
+  pub seats-long : length seat₀ ≡ 1280
+  pub number : t′ .number ≡ x .number
+  pub ints : t′ .ints ≡ x .now .store .ints
+  pub exts : t′ .exts ≡ x .now .store .exts
+  pub numbers : t′ .numbers
+      ≡ inCounts (x .slots) (x .now .store .tally .accounts) (x .now .store .tally .taken)
+      (rank (isKey (x .now .store .taken) (c .kind)) (x .now .store .tally .taken)) k (x .last) (t .numbers)
+  pub buckets : Leaves
+      (reindexed Plain (plainSlots (x .number) (heldBy 64 (t .ints) (t .exts)) (x .slots))
+      (plainSlots (x .number) (heldBy 64 (x .now .store .ints) (x .now .store .exts)) (x .slots)) 0 (index (t .buckets)))
+      (t′ .buckets)
+
+-- what else makes the settled group well formed: the buffer was, the cells behind the slots hold nothing, the slots and the last number have
+-- room, and the rules' group is tidy, with as many messages more as rows were taken
+pub record Settling (t t′ : Table) (c : Cols) (x : RanC) : Type 0 where
+  pub buffer : Good c
+  pub number-long : length (x .number) ≡ 64
+  pub ints-long : length (x .now .store .ints) ≡ 64
+  pub exts-long : length (x .now .store .exts) ≡ 64
+  pub number-clear : Zeros (x .number) (x .slots) 64
+  pub ints-clear : Zeros (x .now .store .ints) (x .slots) 64
+  pub exts-clear : Zeros (x .now .store .exts) (x .slots) 64
+  pub room : x .slots ≤ count t 0
+  pub last : x .last ≤ 65535
+  pub internals : groupInts Real (groupOf t′) ≡ count t 4 + rank (isKey (x .now .store .taken) (c .kind)) (x .now .store .tally .taken)
+  pub externals : groupExts Real (groupOf t′)
+      ≡ count t 5 + (x .now .store .tally .taken - rank (isKey (x .now .store .taken) (c .kind)) (x .now .store .tally .taken))
+  pub tidy : TidyGroup Real (groupOf t′)
+
 -- the numbers of the group's accounts and messages, at entry and now
 pub record GroupFacts (ext : ℕ → Bool) (time : ℕ → ℕ) (f : Renaming (Numbers ext time) Real) (c : Cols) (t : Table) (b : Setting) (m : Columns) : Type 0 where
   pub long : Cols-long c
@@ -122,6 +174,20 @@ pub record TracedStore (fx : Fixed) (s₀ s : Store) : Type 0 where
 pub record Traced (fx : Fixed) (m₀ m : Columns) : Type 0 where
   pub store : TracedStore fx (m₀ .store) (m .store)
   pub joined : (k : ℕ) → k < m .store .tally .joined → getD (m .joined) k 0 < 1280
+
+-- the cells of the positions from s on hold nothing: no number, no count
+pub record BlankFrom (s : ℕ) (m : Columns) (numbers : List ℕ) : Type 0 where
+  pub number0 : (j : ℕ) → s ≤ j → j < 64 → getD numbers j 0 ≡ 0
+  pub ints0 : (j : ℕ) → s ≤ j → j < 64 → getD (m .store .ints) j 0 ≡ 0
+  pub exts0 : (j : ℕ) → s ≤ j → j < 64 → getD (m .store .exts) j 0 ≡ 0
+
+-- how many slots there are, the last number and the slots' numbers, n slots being to be opened
+pub record OpensAtMost (n slots last : ℕ) (slots′ last′ : ℕ) (numbers′ : List ℕ) : Type 0 where
+  pub more : slots ≤ slots′
+  pub most : slots′ ≤ slots + n
+  pub long : length numbers′ ≡ 64
+  pub last-more : last ≤ last′
+  pub last-most : last′ ≤ last + n
 
 -- ---- what the entry makes: the numbers of the buffer and of the group
 

@@ -1,4 +1,5 @@
-// The closed skipped set: accounts that fills pass over, at most 512.
+// The skipped set: accounts that fills pass over, at most 512. Its fields are open to the crates of this repository; callers from outside
+// hold the closed one of crate `lintelsong`.
 ghost use mathlib.Core.Path.{_≡_};
 ghost use mathlib.Core.List.{[]};
 ghost use lib.ListN.{length};
@@ -7,8 +8,8 @@ ghost use Rattle.message.specs.Real.{Real};
 ghost use Rattle.skipped.specs.Sets.{GoodSet, accountsIn};
 
 pub struct Skipped {
-    accounts: [u8; 16384],
-    held: usize,
+    pub accounts: [u8; 16384],
+    pub held: usize,
 }
 
 impl Skipped {

@@ -1,0 +1,19 @@
+-- `Buffer::begin` meets its contract: the core does what the column model does, and that is the rule (crate buffer_rules, TransactRule).
+-- Assumes nothing.
+use borrow.Author.Needs.{needs}
+use Rattle.buffer_rules.proofs.TransactRule.{begin-is, begin-good}
+use Rattle.buffers.specs.Buffers.{colsOf}
+use Rattle.buffers.proofs.Answers.{gives}
+use Rattle.buffers.proofs.buffer.Buffer.begin.Statement.{statement}
+use Rattle.buffers.proofs.buffer.Buffer.begin.Tie as tie
+
+returns : tie.Need-returns
+returns c =
+    let a = c .before .before .before .before .before .before .before .before .before .before .before .before .before .before .before .before .before in
+    let k = colsOf (a .args .self) in
+    gives (c .begin .result) _ (c .begin .ensures) (begin-is k (a .pre)) (begin-good k (a .pre))
+
+pub begin-spec : {M : Type 1} → statement M
+begin-spec =
+    tie.close
+    (tie.spec (λ c κs. search needs) returns)

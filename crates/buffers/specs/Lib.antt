@@ -1,0 +1,2 @@
+-- What the public contracts of a buffer cite.
+pub mod Buffers

@@ -1,0 +1,399 @@
+// The buffer. Its columns are lent to the core, which copies nothing large; a call by value hands the buffer over and back.
+ghost use mathlib.Core.Path.{_≡_};
+ghost use lib.ListN.{length};
+ghost use Prim.Native.Nat.{_/_};
+ghost use Rattle.rules.specs.World.{leastRead};
+ghost use Rattle.rules.specs.Queues.{queued as queuedOf, accountAt, messageAt};
+ghost use Rattle.rules.specs.Calls.{isOpen, within as inRange, setUpBuffer, addMessage, removeAccounts, begin as beginBy, commit as commitBy, rollback as rollbackBy};
+ghost use Rattle.columns.specs.Rows.{rowsOf};
+ghost use Rattle.message.specs.Real.{Real, offer};
+ghost use Rattle.message.specs.Seen.{seenAccount, seenMessage};
+ghost use Rattle.queues.specs.Meant.{meant};
+ghost use Rattle.queues.specs.Append.{addC};
+ghost use Rattle.queues.specs.Compact.{removeC};
+ghost use Rattle.queues.specs.Transact.{beginC, commitC, rollbackC};
+ghost use Rattle.buffers.specs.Buffers.{colsOf, GoodBuffer, Gives, freshC, setUpC, countsOf, filledBy};
+use message::Code;
+use message::Message;
+use message::SeenAccount;
+use message::SeenMessage;
+use numbers::Place;
+
+// A buffer for at most 1,024 messages of at most 256 accounts. Rows 1,024 to 2,047 and accounts 256 to 511 are the backup room.
+pub struct Buffer {
+    pub owner: [u16; 2048],
+    pub kind: [u8; 2048],
+    pub form: [u8; 2048],
+    pub time: [u64; 2048],
+    pub address: [u8; 65536],
+    pub hash: [u8; 65536],
+    pub accounts: [u8; 16384],
+    pub numbers: [u64; 16],
+}
+
+// What a call answers: its code, and the buffer afterwards.
+pub struct Answer {
+    pub code: Code,
+    pub buffer: Buffer,
+}
+
+// The room of a buffer, M messages and A accounts (`capacity`, `places`), and what it holds.
+pub struct Counts {
+    pub capacity: u64,
+    pub places: u64,
+    pub messages: u64,
+    pub accounts: u64,
+    pub ints: u64,
+    pub exts: u64,
+}
+
+// Whether a buffer is filled, by count and by slots.
+pub struct Filled {
+    pub count: bool,
+    pub slots: bool,
+}
+
+// A buffer that holds nothing, with room for m messages of a accounts.
+fn fresh(m: u64, a: u64) -> Buffer
+    ensures { λ r. ⌜ colsOf r ≡ freshC m a ⌝ }
+{
+    let mut numbers = [0u64; 16];
+    numbers[0] = m;
+    numbers[1] = a;
+    Buffer {
+        owner: [0u16; 2048],
+        kind: [0u8; 2048],
+        form: [0u8; 2048],
+        time: [0u64; 2048],
+        address: [0u8; 65536],
+        hash: [0u8; 65536],
+        accounts: [0u8; 16384],
+        numbers,
+    }
+}
+
+// Whether n lies from 1 to `high`.
+fn within(n: u64, high: u64) -> bool
+    ensures { λ r. ⌜ r ≡ inRange 1 high n ⌝ }
+{
+    1 <= n && n <= high
+}
+
+impl Buffer {
+    // ---- set-up
+
+    // Sets a buffer up for M messages, 1 to 1,024, and A accounts, 1 to 256. A refused one has room for one of each.
+    pub fn set_up(m: u64, a: u64) -> Answer
+        ensures { λ r. ⌜ Gives (setUpBuffer Real m a) (setUpC m a) (r .code) (r .buffer) ⌝ }
+    {
+        if within(m, 1024) {
+            if within(a, 256) {
+                return Answer {
+                    code: Code::Done,
+                    buffer: fresh(m, a),
+                };
+            }
+        }
+        Answer {
+            code: Code::SetUp,
+            buffer: fresh(1, 1),
+        }
+    }
+
+    // ---- calls that change the buffer
+
+    // Adds a message to the end of its account's queue: codes 2 to 5.
+    pub fn add_message(self, m: Message) -> Answer
+        requires { ⌜ GoodBuffer self ⌝ }
+        ensures { λ r. ⌜ Gives (addMessage Real (offer m) (meant (colsOf self))) (addC m (colsOf self)) (r .code) (r .buffer) ⌝ }
+    {
+        let mut owner = self.owner;
+        let mut kind = self.kind;
+        let mut form = self.form;
+        let mut time = self.time;
+        let mut address = self.address;
+        let mut hash = self.hash;
+        let mut accounts = self.accounts;
+        let mut numbers = self.numbers;
+        let code = append::add(
+            m,
+            &mut owner,
+            &mut kind,
+            &mut form,
+            &mut time,
+            &mut address,
+            &mut hash,
+            &mut accounts,
+            &mut numbers,
+        );
+        Answer {
+            code,
+            buffer: Buffer {
+                owner,
+                kind,
+                form,
+                time,
+                address,
+                hash,
+                accounts,
+                numbers,
+            },
+        }
+    }
+
+    // Removes the queues of the named accounts, 32 bytes a name: code 8 if one of them holds an external. Names without a queue, names given
+    // twice and bytes behind the last whole name do nothing.
+    pub fn remove_int_messages_by_accounts(self, names: &[u8]) -> Answer
+        requires { ⌜ GoodBuffer self ⌝ }
+        ensures { λ r. ⌜ Gives (removeAccounts Real (rowsOf (length (now (names .entry)) / 32) (now (names .entry))) (meant (colsOf self))) (removeC (now (names .entry)) (colsOf self)) (r .code) (r .buffer) ⌝ }
+    {
+        let mut owner = self.owner;
+        let mut kind = self.kind;
+        let mut form = self.form;
+        let mut time = self.time;
+        let mut address = self.address;
+        let mut hash = self.hash;
+        let mut accounts = self.accounts;
+        let mut numbers = self.numbers;
+        let code = removal::remove(
+            names,
+            &mut owner,
+            &mut kind,
+            &mut form,
+            &mut time,
+            &mut address,
+            &mut hash,
+            &mut accounts,
+            &mut numbers,
+        );
+        Answer {
+            code,
+            buffer: Buffer {
+                owner,
+                kind,
+                form,
+                time,
+                address,
+                hash,
+                accounts,
+                numbers,
+            },
+        }
+    }
+
+    // Opens a transaction: code 7 if one is open.
+    pub fn begin(self) -> Answer
+        requires { ⌜ GoodBuffer self ⌝ }
+        ensures { λ r. ⌜ Gives (beginBy Real (meant (colsOf self))) (beginC (colsOf self)) (r .code) (r .buffer) ⌝ }
+    {
+        let mut owner = self.owner;
+        let mut kind = self.kind;
+        let mut form = self.form;
+        let mut time = self.time;
+        let mut address = self.address;
+        let mut hash = self.hash;
+        let mut accounts = self.accounts;
+        let mut numbers = self.numbers;
+        let code = transactions::begin(
+            &mut owner,
+            &mut kind,
+            &mut form,
+            &mut time,
+            &mut address,
+            &mut hash,
+            &mut accounts,
+            &mut numbers,
+        );
+        Answer {
+            code,
+            buffer: Buffer {
+                owner,
+                kind,
+                form,
+                time,
+                address,
+                hash,
+                accounts,
+                numbers,
+            },
+        }
+    }
+
+    // Ends a transaction and leaves the buffer as it is: code 6 if none is open.
+    pub fn commit(self) -> Answer
+        requires { ⌜ GoodBuffer self ⌝ }
+        ensures { λ r. ⌜ Gives (commitBy Real (meant (colsOf self))) (commitC (colsOf self)) (r .code) (r .buffer) ⌝ }
+    {
+        let mut after = self;
+        let mut numbers = self.numbers;
+        let code = transactions::commit(&mut numbers);
+        after.numbers = numbers;
+        Answer {
+            code,
+            buffer: after,
+        }
+    }
+
+    // Ends a transaction and gives back every queue, the order, the counts and the minimum as at begin: code 6 if none is open.
+    pub fn rollback(self) -> Answer
+        requires { ⌜ GoodBuffer self ⌝ }
+        ensures { λ r. ⌜ Gives (rollbackBy Real (meant (colsOf self))) (rollbackC (colsOf self)) (r .code) (r .buffer) ⌝ }
+    {
+        let mut owner = self.owner;
+        let mut kind = self.kind;
+        let mut form = self.form;
+        let mut time = self.time;
+        let mut address = self.address;
+        let mut hash = self.hash;
+        let mut accounts = self.accounts;
+        let mut numbers = self.numbers;
+        let code = transactions::rollback(
+            &mut owner,
+            &mut kind,
+            &mut form,
+            &mut time,
+            &mut address,
+            &mut hash,
+            &mut accounts,
+            &mut numbers,
+        );
+        Answer {
+            code,
+            buffer: Buffer {
+                owner,
+                kind,
+                form,
+                time,
+                address,
+                hash,
+                accounts,
+                numbers,
+            },
+        }
+    }
+
+    // ---- what a buffer holds
+
+    // The room of the buffer and what it holds.
+    pub fn counts(self) -> Counts
+        requires { ⌜ GoodBuffer self ⌝ }
+        ensures { λ r. ⌜ r ≡ countsOf (meant (colsOf self)) ⌝ }
+    {
+        let numbers = self.numbers;
+        Counts {
+            capacity: numbers[0],
+            places: numbers[1],
+            messages: numbers[2],
+            accounts: numbers[3],
+            ints: numbers[4],
+            exts: numbers[5],
+        }
+    }
+
+    // Whether there is a minimum chain time.
+    pub fn has_min_ext_chain_time(self) -> bool
+        requires { ⌜ GoodBuffer self ⌝ }
+        ensures { λ r. ⌜ r ≡ isOpen (meant (colsOf self) .now .least) ⌝ }
+    {
+        let numbers = self.numbers;
+        let mark = numbers[7];
+        mark != 0
+    }
+
+    // The minimum chain time; absent reads as 2^64 - 1.
+    pub fn min_ext_chain_time(self) -> u64
+        requires { ⌜ GoodBuffer self ⌝ }
+        ensures { λ r. ⌜ r ≡ leastRead (meant (colsOf self) .now .least) ⌝ }
+    {
+        let numbers = self.numbers;
+        if numbers[7] != 0 {
+            numbers[6]
+        } else {
+            u64::MAX
+        }
+    }
+
+    // Whether a transaction is open.
+    pub fn in_tx(self) -> bool
+        requires { ⌜ GoodBuffer self ⌝ }
+        ensures { λ r. ⌜ r ≡ isOpen (meant (colsOf self) .kept) ⌝ }
+    {
+        let numbers = self.numbers;
+        let open = numbers[8];
+        open != 0
+    }
+
+    // How many messages the queue of an account holds; 0 if it has none.
+    pub fn account_messages_count(self, name: [u8; 32]) -> usize
+        requires { ⌜ GoodBuffer self ⌝ }
+        ensures { λ r. ⌜ r ≡ queuedOf Real name (meant (colsOf self) .now) ⌝ }
+    {
+        let owner = self.owner;
+        let accounts = self.accounts;
+        let numbers = self.numbers;
+        let x = name;
+        let held = numbers[2] as usize;
+        let places = numbers[3] as usize;
+        queues::queued(&owner, held, &accounts, places, &x)
+    }
+
+    // Whether the buffer is filled: by count, when it holds at least `limit` messages; by slots, never.
+    pub fn check_is_filled(self, limit: u64) -> Filled
+        requires { ⌜ GoodBuffer self ⌝ }
+        ensures { λ r. ⌜ r ≡ filledBy limit (meant (colsOf self) .now) ⌝ }
+    {
+        let numbers = self.numbers;
+        Filled {
+            count: limit <= numbers[2],
+            slots: false,
+        }
+    }
+
+    // ---- the walk in order
+
+    // The account at a place of the order; none past the end.
+    pub fn account_at(self, place: Place) -> SeenAccount
+        requires { ⌜ GoodBuffer self ⌝ }
+        ensures { λ r. ⌜ r ≡ seenAccount (accountAt Real (place .0) (meant (colsOf self) .now)) ⌝ }
+    {
+        let accounts = self.accounts;
+        let numbers = self.numbers;
+        let p = numbers::wide16(place.0);
+        if p < numbers[3] as usize {
+            return SeenAccount {
+                found: true,
+                account: columns::get_row(&accounts, p),
+            };
+        }
+        SeenAccount {
+            found: false,
+            account: [0u8; 32],
+        }
+    }
+
+    // The message at a position of the queue at a place of the order; none past either end.
+    pub fn message_at(self, place: Place, position: usize) -> SeenMessage
+        requires { ⌜ GoodBuffer self ⌝ }
+        ensures { λ r. ⌜ r ≡ seenMessage (messageAt Real (place .0) position (meant (colsOf self) .now)) ⌝ }
+    {
+        let owner = self.owner;
+        let kind = self.kind;
+        let form = self.form;
+        let time = self.time;
+        let address = self.address;
+        let hash = self.hash;
+        let numbers = self.numbers;
+        let n = numbers[2] as usize;
+        let row = queues::row_of(&owner, n, place.0, position);
+        if row < n {
+            return SeenMessage {
+                found: true,
+                message: records::message_at(&kind, &form, &time, &address, &hash, row),
+            };
+        }
+        SeenMessage {
+            found: false,
+            message: message::blank(),
+        }
+    }
+}

@@ -1,0 +1,1 @@
+-- No lemmas: the contract of the fill on lent columns is all.

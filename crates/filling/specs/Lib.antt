@@ -1,0 +1,2 @@
+-- What a fill by value is called on and leaves.
+pub mod Filling

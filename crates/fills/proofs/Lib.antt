@@ -1,0 +1,3 @@
+-- What the proofs of a fill share: Passes (entry and passes), Whole (the fill).
+pub mod Passes
+pub mod Whole

@@ -1,0 +1,183 @@
+-- `openings::first` meets its contract: what the openings that are left make of the columns now is what all of them make of those at entry;
+-- no more slots wait than were opened. Assumes nothing.
+use mathlib.Core.Path.{refl}
+use mathlib.Core.Logic.{⊎-elim}
+use mathlib.Core.List.{[]}
+use native.Mathlib.Nat.{not-suc-le-zero}
+use native.Mathlib.Omega.{arith}
+use borrow.Author.Needs.{needs}
+use borrow.Author.Tests.{not-true, not-false}
+use Rattle.meaning.specs.Meaning.{columns}
+use Rattle.meaning.specs.Passes.{firstC}
+use Rattle.openings.proofs.Steps.{First, first-end, sought, first-drops, first-full, first-waits}
+use Rattle.openings.proofs.first.Statement.{statement}
+use Rattle.openings.proofs.first.Tie as tie
+
+abbrev Inv-loop : tie.InvT-loop
+Inv-loop owner₀ class taken₀ home₀ member₀ ints₀ exts₀ mark₀ cost joined₀ number₀ fixed opens slots line₀ tail₀ left₀ at₀ now₀ slot₀ given₀ owner
+    taken home member ints exts mark joined number line tail left at now slot given =
+    First class cost fixed (firstC class cost fixed opens [] number₀ slots given₀ 0
+    (columns owner₀ taken₀ home₀ member₀ ints₀ exts₀ mark₀ joined₀ now₀))
+    line tail left number slot given at (columns owner taken home member ints exts mark joined now)
+
+abbrev μ-loop : tie.MeasureT-loop
+μ-loop owner₀ class taken₀ home₀ member₀ ints₀ exts₀ mark₀ cost joined₀ number₀ fixed opens slots line₀ tail₀ left₀ at₀ now₀ slot₀ given₀ owner taken
+    home member ints exts mark joined number line tail left at now slot given =
+    left
+
+loop-holds : tie.Need-loop-holds Inv-loop μ-loop
+loop-holds c = record {
+  good = c .before .pre .0;
+  same = refl;
+  long = search needs;
+  wide = c .before .pre .1 .0;
+  fits = omega arith;
+  room = c .before .pre .1 .1;
+  high = omega (arith, c .wide16 .ensures .0, c .before .pre .1 .2);
+  slots = λ q l. absurd (not-suc-le-zero l);
+}
+
+cast-number : tie.Need-cast-number Inv-loop μ-loop
+cast-number c = omega (arith, c .before .loop .inv .high, c .loop-test .taken)
+
+cast-t46 : tie.Need-cast-t46 Inv-loop μ-loop
+cast-t46 c = omega (
+  arith,
+  c .before .before .before .before .before .before .before .before .before .before .before .before .before .before .before
+      .loop .inv .high,
+  c .before .before .before .before .before .before .before .before .before .before .before .before .before .before .loop-test
+      .taken,
+)
+
+cast-t63 : tie.Need-cast-t63 Inv-loop μ-loop
+cast-t63 c = omega (arith, c .before .before .before .before .before .before .before .before .before .before .before .before .loop .inv .high)
+
+add-id : tie.Need-add-id Inv-loop μ-loop
+add-id c = omega (arith, c .before .loop .inv .high, c .loop-test .taken)
+
+element-write-number : tie.Need-element-write-number Inv-loop μ-loop
+element-write-number c = omega (arith, c .before .loop .inv .room, c .loop-test .taken)
+
+seek-requires : tie.Need-seek-requires Inv-loop μ-loop
+seek-requires c κs =
+    let v = c .before .before .before .before .before .before .before .before .before .loop .inv in
+    (v .good, omega (arith, v .room, c .before .before .before .before .before .before .before .before .loop-test .taken))
+
+held-requires : tie.Need-held-requires Inv-loop μ-loop
+held-requires c κs =
+    let v = c .before .before .before .before .before .before .before .before .before .before .before .before .before .loop .inv in
+    let l = c .before .before .before .before .before .before .before .before .before .before .before .before .loop-test .taken in
+    let good = sought v l (c .before .before .before .seek .ensures) in
+    (omega (arith, v .room, l), (good .store .ints-long, good .store .exts-long))
+
+element-write-number-2 : tie.Need-element-write-number-2 Inv-loop μ-loop
+element-write-number-2 c = omega (
+  arith,
+  c .before .before .before .before .before .before .before .before .before .before .before .before .before
+      .before .before .loop .inv .room,
+  c .before .before .before .before .before .before .before .before .before .before .before .before .before
+      .before .loop-test .taken,
+)
+
+returns : tie.Need-returns Inv-loop μ-loop
+returns c =
+    rw (c .before .before .before .before .before .before .before .before .before .before .before .before .before .before .before .before .wide16
+    .ensures .0) at
+    (first-drops (c .before .before .before .before .before .before .before .before .before .before .before .before .before .before .before .loop
+    .inv) (c .before .before .before .before .before .before .before .before .before .before .before .before .before .before .loop-test .taken)
+    (c .before .before .before .before .before .seek .ensures) (c .before .held .ensures)
+    (c .if1 .taken))
+
+full-requires : tie.Need-full-requires Inv-loop μ-loop
+full-requires c κs =
+    let v = c .before .before .before .before .before .before .before .before .before .before .before .before .before .before .before .before .before
+    .loop .inv in
+    let l = c .before .before .before .before .before .before .before .before .before .before .before .before .before .before .before .before
+    .loop-test .taken in
+    let good = sought v l (c .before .before .before .before .before .before .before .seek .ensures) in
+    (omega (arith, v .room, l), (good .store .ints-long, good .store .exts-long))
+
+cast-line : tie.Need-cast-line Inv-loop μ-loop
+cast-line c = omega (
+  arith,
+  c .before .before .before .before .before .before .before .before .before .before .before .before .before .before .before
+      .before .before .before .before .loop .inv .room,
+  c .before .before .before .before .before .before .before .before .before .before .before
+      .before .before .before .before .before .before .before .loop-test .taken,
+)
+
+array-write-line : tie.Need-array-write-line Inv-loop μ-loop
+array-write-line c = omega (
+  arith,
+  c .before .before .before .before .before .before .before .before .before .before .before .before .before .before
+      .before .before .before .before .before .loop .inv .room,
+  c .before .before .before .before .before .before .before .before .before .before
+      .before .before .before .before .before .before .before .before .before .loop .inv .fits,
+)
+
+add-tail : tie.Need-add-tail Inv-loop μ-loop
+add-tail c = omega (
+  arith,
+  c .before .before .before .before .before .before .before .before .before .before .before .before .before .before .before
+      .before .before .before .before .loop .inv .room,
+  c .before .before .before .before .before .before .before .before .before .before .before
+      .before .before .before .before .before .before .before .before .loop .inv .fits,
+)
+
+add-slot : tie.Need-add-slot Inv-loop μ-loop
+add-slot c = omega (
+  arith,
+  c .before .before .before .before .before .before .before .before .before .before .before .before .before .before .before
+      .before .before .before .before .loop .inv .room,
+)
+
+sub-left : tie.Need-sub-left Inv-loop μ-loop
+sub-left c = omega (
+  arith,
+  c .before .before .before .before .before .before .before .before .before .before .before .before .before .before .before
+      .before .before .before .loop-test .taken,
+)
+
+loop-less : tie.Need-loop-less Inv-loop μ-loop
+loop-less c = omega (
+  arith,
+  c .before .before .before .before .before .before .before .before .before .before .before .before .before .before .before
+      .before .before .before .loop-test .taken,
+)
+
+loop-again : tie.Need-loop-again Inv-loop μ-loop
+loop-again c =
+    let v = c .before .before .before .before .before .before .before .before .before .before .before .before .before .before .before .before .before
+    .before .before .loop .inv in
+    let l = c .before .before .before .before .before .before .before .before .before .before .before .before .before .before .before .before .before
+    .before .loop-test .taken in
+    ⊎-elim
+    (λ w. rw (w .1, w .2)
+    (first-waits v l (c .before .before .before .before .before .before .before .before .before .seek .ensures)
+    (c .before .before .before .before .before .held .ensures) (c .before .before .before .before .if1 .left) (c .before .full .ensures)
+    (not-true _ (w .0 .taken))))
+    (λ w. rw (w .1, w .2)
+    (first-full v l (c .before .before .before .before .before .before .before .before .before .seek .ensures)
+    (c .before .before .before .before .before .held .ensures) (c .before .before .before .before .if1 .left) (c .before .full .ensures)
+    (not-false _ (w .0 .left))))
+    (c .if2 .came)
+
+serve-requires : tie.Need-serve-requires Inv-loop μ-loop
+serve-requires c κs =
+    let v = c .before .before .before .before .before .before .before .before .before .before .loop .inv in
+    (v .good, ((v .long, omega (arith, v .fits, v .room)), v .slots))
+
+returns-2 : tie.Need-returns-2 Inv-loop μ-loop
+returns-2 c =
+    rw (c .before .before .before .before .before .before .before .before .before .before .before .before .before .wide16 .ensures .0) at
+    (first-end (c .before .before .before .before .before .before .before .before .before .before .before .before .loop .inv)
+    (omega (arith, c .before .before .before .before .before .before .before .before .before .before .before .loop-test .left))
+    (c .before .serve .ensures))
+
+pub first-spec : {M : Type 1} → statement M
+first-spec =
+    tie.close
+    (tie.spec Inv-loop μ-loop (λ c κs. search needs) loop-holds add-id cast-number (λ c. search needs) element-write-number seek-requires
+    held-requires
+    (λ c. search needs) element-write-number-2 cast-t46 returns full-requires cast-line array-write-line add-tail add-slot sub-left loop-less
+    loop-again serve-requires cast-t63 returns-2)

@@ -1,0 +1,2 @@
+-- What the loops of the tests keep.
+pub mod Looks

@@ -1,0 +1,24 @@
+-- `refusals::overfull` meets its contract: the slots listed are those of the buckets below the height. Assumes nothing.
+use Prim.Native.Nat.{ℕ}
+use lib.ListN.{length-replicate}
+use borrow.Author.Needs.{needs}
+use Rattle.refusals.proofs.Looks.{listed-long, listed-front}
+use Rattle.refusals.proofs.overfull.Statement.{statement}
+use Rattle.refusals.proofs.overfull.Tie as tie
+
+some-above-requires : tie.Need-some-above-requires
+some-above-requires c κs =
+    let p = c .before .before .before .pre in
+    let l = c .before .list-below .ensures in
+    record {
+      number-long = p .0;
+      few = p .1;
+      listed-long = listed-long l (length-replicate {A = ℕ} 1024 0);
+      fits = l .few;
+    }
+
+returns : tie.Need-returns
+returns c = rw (listed-front (c .before .before .list-below .ensures) (length-replicate {A = ℕ} 1024 0)) at (c .some-above .ensures)
+
+pub overfull-spec : {M : Type 1} → statement M
+overfull-spec = tie.close (tie.spec (λ c κs. search needs) some-above-requires returns)

@@ -1,0 +1,2 @@
+-- When a fill is refused.
+pub mod Refusals
