@@ -20,6 +20,6 @@ mod fills;
 pub mod generate;
 mod harness;
 mod print;
-mod record;
+pub mod record;
 pub mod replay;
 mod scenario;

@@ -1,0 +1,2 @@
+-- What the contracts of timing cite.
+pub mod Fills
