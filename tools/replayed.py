@@ -1,4 +1,4 @@
-"""What stored-run and compare-replay share: scenarios of the commands that the program `replay` takes so far, and who answers them.
+"""What stored-run and compare-replay share: scenarios, and who answers them.
 
 The oracle and its generator stand in oracle/target/release, or in the folder that ORACLE names; the program is target/bin/replay, where
 `rt check` puts it, or the file that REPLAY names."""
@@ -8,7 +8,6 @@ TOP = os.path.dirname(os.path.dirname(os.path.abspath(__file__)))
 BIN = os.environ.get("ORACLE") or os.path.join(TOP, "oracle", "target", "release")
 PROGRAM = os.environ.get("REPLAY") or os.path.join(TOP, "target", "bin", "replay")
 PROFILES = ["dense", "stale", "rows", "externals", "transactions", "joins", "limits", "numbers", "mixed"]
-LATER = {"group", "fill", "join", "isfilled"}  # commands that come with the fills
 MOST = 2 ** 64 - 1
 
 
@@ -30,18 +29,10 @@ def replay(text):
     return answer([PROGRAM], text)
 
 
-def so_far(text):
-    """The scenario without the commands that come later, also within `times`."""
-    def later(line):
-        words = line.split()
-        return bool(words) and (words[0] in LATER or (words[0] == "times" and len(words) > 2 and words[2] in LATER))
-    return "".join(line for line in text.splitlines(True) if not later(line))
-
-
 def generated(profile, seed, count, terse=False):
     """Scenarios of the oracle's generator, one text each."""
     words = [os.path.join(BIN, "scenarios"), profile, str(seed), str(count)] + (["--terse"] if terse else [])
-    stream = so_far(answer(words).decode())
+    stream = answer(words).decode()
     return re.split(r"(?m)^(?=# %s )" % profile, stream)[1:]
 
 
@@ -96,12 +87,14 @@ def lines(seed, index):
     """A few lines of which the last is odd, and perhaps no command: spaces, numbers out of range, wrong counts, long lines, no last LF."""
     d = Dice("lines", seed, index)
     good = ["buffer 3 2", "add 0 0 0 7 5 1", "add 1 0 0 8 6 2", "remove 7 8", "remove", "begin", "commit", "rollback", "full 2", "quiet", "loud",
-            "rows", "row 1 0 5", "cost 4", "set", "keys 2048", "times 3 add 0 0 0 7 5 1", "times 2 begin", "", "   ", "# all is well", " #x"]
+            "rows", "row 1 0 5", "row 7 1 2", "cost 4", "set", "keys 2048", "keys 4", "times 3 add 0 0 0 7 5 1", "times 2 begin", "group 0 2", "group 1 64",
+            "group 3 1", "fill 0 1 2 0 0", "fill 0 2 16 1 6", "times 3 fill 0 1 1 0 0", "join 0 1", "times 2 join 1 0", "isfilled 0 1 1", "isfilled 1 0 17",
+            "", "   ", "# all is well", " #x"]
 
     def odd():
         words = d.of([g for g in good if g.strip() and "#" not in g]).split()
         at = d.below(len(words))
-        number = d.of(["0", "00", "007", "1", "2", "255", "256", "2048", "2049", str(MOST), "0" * 30 + str(MOST), str(MOST + 1), str(10 * MOST),
+        number = d.of(["0", "00", "007", "1", "2", "3", "4", "16", "17", "64", "65", "255", "256", "2048", "2049", str(MOST), "0" * 30 + str(MOST), str(MOST + 1), str(10 * MOST),
                        "1" * 25, "-1", "+1", "1.0", "1e3", "0x1", "a", "1a", "a1", "\t", "1\r", "\xff", "\x00", "times", "add", "#"])
         how = d.below(10)
         if how < 4:
@@ -123,7 +116,7 @@ def lines(seed, index):
         text += d.of([" ", "#", "1", " 1"]) * long
         return " " * d.below(2) * d.below(4) + (text[:long] if long else text) + " " * d.below(2) * d.below(4)
 
-    out = [d.of(good) for _ in range(d.below(4))] + [odd()] + [d.of(good) for _ in range(d.below(3))]
+    out = [d.of(good) for _ in range(d.below(8))] + [odd()] + [d.of(good) for _ in range(d.below(3))]
     return "\n".join(out) + d.of(["", "\n", "\n"])
 
 

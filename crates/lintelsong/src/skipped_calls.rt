@@ -2,10 +2,13 @@
 ghost use mathlib.Core.Path.{_≡_};
 ghost use mathlib.Core.List.{[]};
 ghost use lib.ListN.{length};
+ghost use Rattle.rules.specs.World.{nth};
 ghost use Rattle.rules.specs.Queues.{isIn};
 ghost use Rattle.message.specs.Real.{Real};
+ghost use Rattle.message.specs.Seen.{seenAccount};
 ghost use Rattle.lintelsong.specs.Closed.{GoodSet, accountsIn};
 use crate::Skipped;
+use message::SeenAccount;
 
 impl Skipped {
     // A set of no accounts.
@@ -32,5 +35,14 @@ impl Skipped {
     {
         let s = self.held;
         s.contains(name)
+    }
+
+    // The account at a position, in the order in which they joined; none past the end.
+    pub fn account_at(self, position: usize) -> SeenAccount
+        requires { ⌜ GoodSet self ⌝ }
+        ensures { λ r. ⌜ r ≡ seenAccount (nth position (accountsIn self)) ⌝ }
+    {
+        let s = self.held;
+        s.account_at(position)
     }
 }

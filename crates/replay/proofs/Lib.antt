@@ -1,1 +1,2 @@
--- No law of its own.
+-- The proofs of the functions, and what a command keeps.
+pub mod Going

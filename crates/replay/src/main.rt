@@ -1,227 +1,109 @@
-// Reads scenarios on standard input and prints what the buffer answers and holds, in the language of docs/SCENARIOS.md.
-ghost use mathlib.Core.Path.{_≡_};
-ghost use Prim.Native.Nat.{_*_, _≤_};
-ghost use lib.ListN.{length};
-ghost use Rattle.scenario.specs.Desks.{GoodDesk};
-ghost use Rattle.replay.specs.Runs.{Ready};
+// Reads scenarios on standard input and prints what the buffer and the groups answer and hold, in the language of docs/SCENARIOS.md.
+ghost use Rattle.desk.specs.Desks.{KeyRoom};
 
 mod input;
+mod orders;
 
-use input::Reader;
+use desk::Reply;
+use orders::Task;
 use printout::out::Pen;
 use scenario::commands::Command;
-use scenario::commands::Line;
-use scenario::desk::Desk;
 
-// What a line leaves: the desk, the pen, and whether the run goes on.
-struct Passed {
-    desk: Desk,
-    pen: Pen,
-    on: bool,
-}
-
-// The same, with what is read of the input.
-struct Going {
-    desk: Desk,
-    pen: Pen,
-    reader: Reader,
-    on: bool,
-}
-
-// Writes the names of the first n numbers, 32 bytes each.
-fn write_names(numbers: &[u64], n: usize, names: &mut [u8])
-    requires { ⌜ (n ≤ length (now numbers)) × (32 * n ≤ length (now names)) ⌝ }
-{
-    let mut i: usize = 0;
-    while i < n {
-        let name = words::name::name_of(numbers[i]);
-        columns::put_row(names, i, &name);
-        i += 1;
-    }
-}
-
-// Lays out the names that a removal takes, and says how many bytes they are; no other command has any.
-fn names_of(c: Command, n: usize, numbers: &[u64], names: &mut [u8]) -> usize
-    ensures { λ r. ⌜ r ≤ length (now (names .exit)) ⌝ }
-{
-    let Command::Remove = c else {
-        return 0;
-    };
-    if 32768 < n {
-        return 0;
-    }
-    let size = 32 * n;
-    if numbers.len() < n {
-        return 0;
-    }
-    if names.len() < size {
-        return 0;
-    }
-    write_names(numbers, n, names);
-    size
-}
-
-// Does a command so many times and prints the line, the last answer and, while loud, the state. The run ends where a write fails.
-fn act(
-    desk: Desk,
-    pen: Pen,
-    times: u64,
-    c: Command,
-    line: &[u8],
-    names: &[u8],
-    page: &mut [u8],
-) -> Passed
-    requires { ⌜ GoodDesk desk ⌝ }
-    ensures { λ r. ⌜ GoodDesk (r .desk) ⌝ }
-{
-    let done = scenario::desk::repeat(desk, times, c, names);
-    let after = done.desk;
-    let reply = done.reply;
-    let echoed = printout::show::echo(page, pen, line);
-    let replied = printout::show::reply(page, echoed, reply);
-    if after.loud {
-        let shown = printout::show::state(page, replied, after);
-        return Passed {
-            desk: after,
-            pen: shown,
-            on: !shown.failed,
-        };
-    }
-    Passed {
-        desk: after,
-        pen: replied,
-        on: !replied.failed,
-    }
-}
-
-// One line: the number of the line is printed if it is no command.
-fn turn(
-    desk: Desk,
-    pen: Pen,
-    number: u64,
-    line: &[u8],
-    numbers: &mut [u64],
-    names: &mut [u8],
-    page: &mut [u8],
-) -> Passed
-    requires { ⌜ GoodDesk desk ⌝ }
-    ensures { λ r. ⌜ GoodDesk (r .desk) ⌝ }
-{
-    let read = scenario::commands::read(line, numbers);
-    match read {
-        Line::Silent => Passed {
-            desk,
-            pen,
-            on: true,
-        },
-        Line::Bad => {
-            let said = printout::show::bad_line(page, pen, number);
-            Passed {
-                desk,
-                pen: said,
-                on: false,
-            }
-        }
-        Line::Order(times, n, c) => {
-            let size = names_of(c, n, numbers, names);
-            act(desk, pen, times, c, line, &names[..size], page)
-        }
-    }
-}
-
-// The next line, if there is one.
-fn step(
-    desk: Desk,
-    pen: Pen,
-    reader: Reader,
-    number: u64,
-    chunk: &mut [u8],
-    line: &mut [u8],
-    numbers: &mut [u64],
-    names: &mut [u8],
-    page: &mut [u8],
-) -> Going
-    requires { ⌜ Ready desk (reader .held) (length (now chunk)) ⌝ }
-    ensures { λ r. ⌜ Ready (r .desk) (r .reader .held) (length (now (chunk .exit))) ⌝ }
-{
-    let got = input::next(chunk, line, reader);
-    let rest = got.reader;
-    if !got.found {
-        return Going {
-            desk,
-            pen,
-            reader: rest,
-            on: false,
-        };
-    }
-    let size = got.length;
-    let t = turn(desk, pen, number, &line[..size], numbers, names, page);
-    let after = t.desk;
-    let p = t.pen;
-    Going {
-        desk: after,
-        pen: p,
-        reader: rest,
-        on: t.on,
-    }
-}
-
-// Line by line, to the end of the input, to the first line that is no command, or until a write fails.
+// Line by line, to the end of the input, to the first line that is no command, or until a write fails. The buffer, the tray and the shelf
+// stay here, by value: each command takes what it goes to, and gives it back.
 fn lines(
     chunk: &mut [u8],
     line: &mut [u8],
     numbers: &mut [u64],
-    names: &mut [u8],
     page: &mut [u8],
-) -> Pen {
-    let mut desk = scenario::desk::fresh();
-    let mut pen = printout::out::fresh();
-    let mut reader = input::fresh();
-    let mut number: u64 = 0;
-    let mut on = true;
-    while on && number < u64::MAX {
-        number += 1;
-        let g = step(desk, pen, reader, number, chunk, line, numbers, names, page);
-        desk = g.desk;
-        pen = g.pen;
-        reader = g.reader;
-        on = g.on;
+    lts: &mut [u64],
+    hashes: &mut [u8],
+) -> Pen
+    requires { ⌜ KeyRoom (now lts) (now hashes) ⌝ }
+{
+    let mut b = desk::buffer::fresh();
+    let mut t = desk::tray::fresh();
+    let mut s = desk::shelf::fresh();
+    let mut c = orders::fresh();
+    while c.on && c.number < u64::MAX {
+        let next = orders::take(c, s.made, chunk, line, numbers, page);
+        c = next.course;
+        let task = next.task;
+        if let Task::Do(times, n, command) = task {
+            let mut reply = Reply::Code(0);
+            match command {
+                Command::Buffer(o) => {
+                    let d = desk::buffer::repeat(b, times, o, numbers, n);
+                    b = d.buffer;
+                    reply = d.reply;
+                }
+                Command::Tray(o) => t = desk::tray::repeat(t, times, o, lts, hashes),
+                Command::Group(place, slots) => {
+                    let d = desk::shelf::set_up(slots);
+                    s = desk::shelf::with_new(s, place, d.group);
+                    reply = d.reply;
+                }
+                Command::Join(left, right) => {
+                    let l = desk::shelf::group_at(s, left);
+                    let r = desk::shelf::group_at(s, right);
+                    let d = desk::shelf::join(l, r, times);
+                    s = desk::shelf::with_both(s, left, d.left, right, d.right);
+                    reply = d.reply;
+                }
+                Command::Fill(ask) => {
+                    let g = desk::shelf::group_at(s, ask.group);
+                    let d = desk::fill::repeat(b, g, t, times, ask, lts, hashes);
+                    b = d.buffer;
+                    s = desk::shelf::with_group(s, ask.group, d.group);
+                    t = desk::fill::with_set(t, d.skipped);
+                    reply = d.reply;
+                }
+                Command::IsFilled(place, slots, height) => {
+                    let g = desk::shelf::group_at(s, place);
+                    reply = desk::shelf::is_filled(g, slots, height);
+                }
+                Command::Full(limit) => reply = desk::buffer::full(b, limit),
+                Command::Wrong => {}
+            }
+            let mut pen = printout::show::reply(page, c.pen, reply);
+            if t.loud {
+                pen = overview::state::state(page, pen, b, s, t, lts, hashes);
+            }
+            c = orders::with_pen(c, pen);
+        }
     }
+    let pen = c.pen;
     pen
 }
 
 // The whole run, and what waits on the page at its end.
-fn run(chunk: &mut [u8], line: &mut [u8], numbers: &mut [u64], names: &mut [u8], page: &mut [u8]) {
-    let pen = lines(chunk, line, numbers, names, page);
+fn run(
+    chunk: &mut [u8],
+    line: &mut [u8],
+    numbers: &mut [u64],
+    page: &mut [u8],
+    lts: &mut [u64],
+    hashes: &mut [u8],
+)
+    requires { ⌜ KeyRoom (now lts) (now hashes) ⌝ }
+{
+    let pen = lines(chunk, line, numbers, page, lts, hashes);
     printout::out::flush(page, pen);
 }
 
-// Room for the longest line and one byte more.
-fn line_room() -> [u8; 65537]
-    ensures { λ r. ⌜ 65537 ≡ length r ⌝ }
-{
-    [0u8; 65537]
-}
-
-// Room for the numbers of a line.
-fn number_room() -> [u64; 32768]
-    ensures { λ r. ⌜ 32768 ≡ length r ⌝ }
-{
-    [0u64; 32768]
-}
-
-// Room for their names, 32 bytes each.
-fn name_room() -> [u8; 1048576]
-    ensures { λ r. ⌜ 1048576 ≡ length r ⌝ }
-{
-    [0u8; 1048576]
-}
-
 fn main() {
-    let mut chunk = io::large_buffer();
-    let mut line = line_room();
-    let mut numbers = number_room();
-    let mut names = name_room();
-    let mut page = io::large_buffer();
-    run(&mut chunk, &mut line, &mut numbers, &mut names, &mut page);
+    let mut chunk = [0u8; 65536];
+    let mut line = [0u8; 65537];
+    let mut numbers = [0u64; 32768];
+    let mut page = [0u8; 65536];
+    let mut lts = [0u64; 2048];
+    let mut hashes = [0u8; 65536];
+    run(
+        &mut chunk,
+        &mut line,
+        &mut numbers,
+        &mut page,
+        &mut lts,
+        &mut hashes,
+    );
 }

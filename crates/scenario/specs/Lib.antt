@@ -1,2 +1,1 @@
--- What the contracts of a desk cite.
-pub mod Desks
+-- Nothing of its own: the functions that read a line are safe and end.

@@ -1,4 +1,6 @@
 // A line read as a command. Every word after a command's name is a number; the numbers are put on a list that is lent.
+use crate::verbs;
+use crate::verbs::Verb;
 use words::cut;
 use words::decimal;
 use words::decimal::Number;
@@ -13,22 +15,52 @@ pub struct Record {
     pub hash: u64,
 }
 
-// What a command asks for. The names of a removal stand on the list.
-pub enum Command {
-    Buffer(u64, u64),
+// A skip row: the account, 1 if it is skipped and 0 if not, and what a check of it costs.
+pub struct SkipRow {
+    pub account: u64,
+    pub verdict: u8,
+    pub cost: u64,
+}
+
+// What a fill is asked for. Without a filter the threshold says nothing.
+pub struct Ask {
+    pub group: usize,
+    pub slots: u64,
+    pub height: u64,
+    pub filter: bool,
+    pub threshold: u64,
+}
+
+// An order to the buffer. The names of a removal stand on the list.
+pub enum BufferOrder {
+    SetUp(u64, u64),
     Add(Record),
     Remove,
     Begin,
     Commit,
     Rollback,
+}
+
+// An order to what is laid ready for a fill, or to print states or not.
+pub enum TrayOrder {
     Rows,
-    Row,
+    Row(SkipRow),
     Cost(u64),
     Set,
-    Keys(u64),
-    Full(u64),
+    Keys(usize),
     Quiet,
     Loud,
+}
+
+// A command, by what it goes to. A group is named by its place. The last two only look.
+pub enum Command {
+    Buffer(BufferOrder),
+    Tray(TrayOrder),
+    Group(usize, u64),
+    Join(usize, usize),
+    Fill(Ask),
+    IsFilled(usize, u64, u64),
+    Full(u64),
     Wrong,
 }
 
@@ -39,81 +71,10 @@ pub enum Line {
     Order(u64, usize, Command),
 }
 
-// The first word of a command.
-enum Verb {
-    Buffer,
-    Add,
-    Remove,
-    Begin,
-    Commit,
-    Rollback,
-    Rows,
-    Row,
-    Cost,
-    Set,
-    Keys,
-    Full,
-    Quiet,
-    Loud,
-    Unknown,
-}
-
 // How many words were read as numbers, or that one of them is none.
 enum Counted {
     All(usize),
     Wrong,
-}
-
-// The verb that a word names: those of the buffer.
-fn verb_of(word: &[u8]) -> Verb {
-    if cut::same(word, b"add") {
-        return Verb::Add;
-    }
-    if cut::same(word, b"remove") {
-        return Verb::Remove;
-    }
-    if cut::same(word, b"begin") {
-        return Verb::Begin;
-    }
-    if cut::same(word, b"commit") {
-        return Verb::Commit;
-    }
-    if cut::same(word, b"rollback") {
-        return Verb::Rollback;
-    }
-    if cut::same(word, b"buffer") {
-        return Verb::Buffer;
-    }
-    if cut::same(word, b"full") {
-        return Verb::Full;
-    }
-    verb_beside(word)
-}
-
-// The verb that a word names: those of what lies beside the buffer.
-fn verb_beside(word: &[u8]) -> Verb {
-    if cut::same(word, b"rows") {
-        return Verb::Rows;
-    }
-    if cut::same(word, b"row") {
-        return Verb::Row;
-    }
-    if cut::same(word, b"cost") {
-        return Verb::Cost;
-    }
-    if cut::same(word, b"set") {
-        return Verb::Set;
-    }
-    if cut::same(word, b"keys") {
-        return Verb::Keys;
-    }
-    if cut::same(word, b"quiet") {
-        return Verb::Quiet;
-    }
-    if cut::same(word, b"loud") {
-        return Verb::Loud;
-    }
-    Verb::Unknown
 }
 
 // Reads the words from `at` on as numbers. There is room for all that a line of 65,536 bytes can hold.
@@ -161,63 +122,130 @@ fn add(numbers: &[u64]) -> Command {
     if 1 < other {
         return Command::Wrong;
     }
-    Command::Add(Record {
+    Command::Buffer(BufferOrder::Add(Record {
         kind: kind as u8,
         special: special == 1,
         other: other == 1,
         account: at(numbers, 3),
         time: at(numbers, 4),
         hash: at(numbers, 5),
-    })
+    }))
 }
 
 // One more skip row: its verdict is 0 or 1.
-fn row(verdict: u64) -> Command {
-    if verdict < 2 {
-        Command::Row
-    } else {
-        Command::Wrong
+fn row(account: u64, verdict: u64, cost: u64) -> Command {
+    if 1 < verdict {
+        return Command::Wrong;
     }
+    Command::Tray(TrayOrder::Row(SkipRow {
+        account,
+        verdict: verdict as u8,
+        cost,
+    }))
 }
 
 // A key list of at most 2,048 rows.
 fn keys(rows: u64) -> Command {
     if rows <= 2048 {
-        Command::Keys(rows)
+        Command::Tray(TrayOrder::Keys(rows as usize))
     } else {
         Command::Wrong
     }
+}
+
+// The set-up of one of the four groups.
+fn group(place: u64, slots: u64) -> Command {
+    if 3 < place {
+        return Command::Wrong;
+    }
+    Command::Group(place as usize, slots)
+}
+
+// The fill of a group: the filter is 0 or 1.
+fn fill(numbers: &[u64]) -> Command {
+    let place = at(numbers, 0);
+    let filter = at(numbers, 3);
+    if 3 < place {
+        return Command::Wrong;
+    }
+    if 1 < filter {
+        return Command::Wrong;
+    }
+    Command::Fill(Ask {
+        group: place as usize,
+        slots: at(numbers, 1),
+        height: at(numbers, 2),
+        filter: filter == 1,
+        threshold: at(numbers, 4),
+    })
+}
+
+// The join of two groups, not of one with itself.
+fn join(left: u64, right: u64) -> Command {
+    if 3 < left {
+        return Command::Wrong;
+    }
+    if 3 < right {
+        return Command::Wrong;
+    }
+    if left == right {
+        return Command::Wrong;
+    }
+    Command::Join(left as usize, right as usize)
+}
+
+// Whether one of the four groups is filled.
+fn is_filled(place: u64, slots: u64, height: u64) -> Command {
+    if 3 < place {
+        return Command::Wrong;
+    }
+    Command::IsFilled(place as usize, slots, height)
 }
 
 // The command of a verb and n numbers.
 fn command_of(verb: Verb, n: usize, numbers: &[u64]) -> Command {
     let first = at(numbers, 0);
     let second = at(numbers, 1);
+    let third = at(numbers, 2);
     match verb {
-        Verb::Buffer => exactly(n, 2, Command::Buffer(first, second)),
+        Verb::Buffer => exactly(n, 2, Command::Buffer(BufferOrder::SetUp(first, second))),
+        Verb::Group => exactly(n, 2, group(first, second)),
         Verb::Add => exactly(n, 6, add(numbers)),
-        Verb::Remove => Command::Remove,
-        Verb::Begin => exactly(n, 0, Command::Begin),
-        Verb::Commit => exactly(n, 0, Command::Commit),
-        Verb::Rollback => exactly(n, 0, Command::Rollback),
-        Verb::Rows => exactly(n, 0, Command::Rows),
-        Verb::Row => exactly(n, 3, row(second)),
-        Verb::Cost => exactly(n, 1, Command::Cost(first)),
-        Verb::Set => exactly(n, 0, Command::Set),
+        Verb::Remove => Command::Buffer(BufferOrder::Remove),
+        Verb::Begin => exactly(n, 0, Command::Buffer(BufferOrder::Begin)),
+        Verb::Commit => exactly(n, 0, Command::Buffer(BufferOrder::Commit)),
+        Verb::Rollback => exactly(n, 0, Command::Buffer(BufferOrder::Rollback)),
+        Verb::Rows => exactly(n, 0, Command::Tray(TrayOrder::Rows)),
+        Verb::Row => exactly(n, 3, row(first, second, third)),
+        Verb::Cost => exactly(n, 1, Command::Tray(TrayOrder::Cost(first))),
+        Verb::Set => exactly(n, 0, Command::Tray(TrayOrder::Set)),
         Verb::Keys => exactly(n, 1, keys(first)),
+        Verb::Fill => exactly(n, 5, fill(numbers)),
+        Verb::Join => exactly(n, 2, join(first, second)),
+        Verb::IsFilled => exactly(n, 3, is_filled(first, second, third)),
         Verb::Full => exactly(n, 1, Command::Full(first)),
-        Verb::Quiet => exactly(n, 0, Command::Quiet),
-        Verb::Loud => exactly(n, 0, Command::Loud),
+        Verb::Quiet => exactly(n, 0, Command::Tray(TrayOrder::Quiet)),
+        Verb::Loud => exactly(n, 0, Command::Tray(TrayOrder::Loud)),
         Verb::Unknown => Command::Wrong,
     }
 }
 
-// The command whose name stands first from `here` on, so many times.
-fn order(times: u64, line: &[u8], here: usize, numbers: &mut [u64]) -> Line {
+// Whether the groups that a command goes to are there; `made` are set up.
+fn knows(made: usize, c: Command) -> bool {
+    match c {
+        Command::Fill(ask) => ask.group < made,
+        Command::IsFilled(place, _, _) => place < made,
+        Command::Join(left, right) => left < made && right < made,
+        _ => true,
+    }
+}
+
+// The command whose name stands first from `here` on, so many times. There are `made` groups.
+fn order(times: u64, line: &[u8], here: usize, made: usize, numbers: &mut [u64]) -> Line {
     let w = cut::word(line, here);
     let from = w.from;
     let to = w.to;
-    let v = verb_of(&line[from..to]);
+    let v = verbs::verb_of(&line[from..to]);
     let Counted::All(n) = numbers_from(line, to, numbers) else {
         return Line::Bad;
     };
@@ -225,11 +253,14 @@ fn order(times: u64, line: &[u8], here: usize, numbers: &mut [u64]) -> Line {
     if let Command::Wrong = c {
         return Line::Bad;
     }
-    Line::Order(times, n, c)
+    if knows(made, c) {
+        return Line::Order(times, n, c);
+    }
+    Line::Bad
 }
 
 // A command that is repeated: how often, from 1 on, stands first from `here` on.
-fn repeated(line: &[u8], here: usize, numbers: &mut [u64]) -> Line {
+fn repeated(line: &[u8], here: usize, made: usize, numbers: &mut [u64]) -> Line {
     let w = cut::word(line, here);
     let from = w.from;
     let to = w.to;
@@ -239,11 +270,11 @@ fn repeated(line: &[u8], here: usize, numbers: &mut [u64]) -> Line {
     if times == 0 {
         return Line::Bad;
     }
-    order(times, line, to, numbers)
+    order(times, line, to, made, numbers)
 }
 
-// Reads a line. One longer than 65,536 bytes is no command, whatever it begins with.
-pub fn read(line: &[u8], numbers: &mut [u64]) -> Line {
+// Reads a line, where `made` groups are set up. One longer than 65,536 bytes is no command, whatever it begins with.
+pub fn read(line: &[u8], made: usize, numbers: &mut [u64]) -> Line {
     if 65536 < line.len() {
         return Line::Bad;
     }
@@ -257,7 +288,7 @@ pub fn read(line: &[u8], numbers: &mut [u64]) -> Line {
         return Line::Silent;
     }
     if cut::same(&line[from..to], b"times") {
-        return repeated(line, to, numbers);
+        return repeated(line, to, made, numbers);
     }
-    order(1, line, from, numbers)
+    order(1, line, from, made, numbers)
 }

@@ -1,3 +1,3 @@
-// The scenario language over the buffer: what a line says, and a desk that obeys it. Nothing is read or written here.
+// The scenario language: what a line says. Nothing is done, read or written here.
 pub mod commands;
-pub mod desk;
+pub mod verbs;

@@ -1,1 +1,2 @@
--- The proofs of the public calls alone.
+-- The proofs of the public calls, and the walk along a set.
+pub mod Walk

@@ -3,9 +3,12 @@
 ghost use mathlib.Core.Path.{_≡_};
 ghost use mathlib.Core.List.{[]};
 ghost use lib.ListN.{length};
+ghost use Rattle.rules.specs.World.{nth};
 ghost use Rattle.rules.specs.Queues.{isIn};
 ghost use Rattle.message.specs.Real.{Real};
+ghost use Rattle.message.specs.Seen.{seenAccount};
 ghost use Rattle.skipped.specs.Sets.{GoodSet, accountsIn};
+use message::SeenAccount;
 
 pub struct Skipped {
     pub accounts: [u8; 16384],
@@ -41,5 +44,24 @@ impl Skipped {
         let held = self.held;
         let x = name;
         columns::find_row(&accounts, held, &x) < held
+    }
+
+    // The account at a position, in the order in which they joined; none past the end.
+    pub fn account_at(self, position: usize) -> SeenAccount
+        requires { ⌜ GoodSet self ⌝ }
+        ensures { λ r. ⌜ r ≡ seenAccount (nth position (accountsIn self)) ⌝ }
+    {
+        let accounts = self.accounts;
+        let held = self.held;
+        if position < held {
+            return SeenAccount {
+                found: true,
+                account: columns::get_row(&accounts, position),
+            };
+        }
+        SeenAccount {
+            found: false,
+            account: [0u8; 32],
+        }
     }
 }

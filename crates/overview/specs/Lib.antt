@@ -1,0 +1,1 @@
+-- Nothing of its own: the contracts cite when a desk is well formed.
