@@ -14,7 +14,7 @@ MOST = 2 ** 64 - 1
 def answer(words, text=b""):
     """What a program writes on an input. One that is missing or fails is an error of its own."""
     if not os.path.exists(words[0]):
-        sys.exit("%s is missing: oracle/build makes the oracle and its generator, `rt check replay` the program" % words[0])
+        sys.exit("%s is missing: oracle/build makes the oracle's programs, `rt check` the port's" % words[0])
     done = subprocess.run(words, input=text, stdout=subprocess.PIPE, stderr=subprocess.PIPE)
     if done.returncode != 0:
         sys.exit("%s: status %d: %s" % (words[0], done.returncode, done.stderr[-2000:].decode("utf-8", "replace")))

@@ -1,4 +1,4 @@
-//! Runs the original message buffer, unchanged, on text scenarios.
+//! Runs the original message buffer, unchanged, on text scenarios and on sheets.
 
 // The original names three crates that are not here; this one answers to their names.
 extern crate self as tycho_block_util;
@@ -23,3 +23,4 @@ mod print;
 pub mod record;
 pub mod replay;
 mod scenario;
+pub mod sheet;

@@ -157,11 +157,11 @@ fn place(group: u64) -> Option<usize> {
     (group < GROUPS).then_some(group as usize)
 }
 
-fn flag(number: u64) -> Option<bool> {
+pub fn flag(number: u64) -> Option<bool> {
     (number < 2).then_some(number == 1)
 }
 
-fn number(word: &[u8]) -> Option<u64> {
+pub fn number(word: &[u8]) -> Option<u64> {
     word.iter().try_fold(0_u64, |value, byte| {
         let digit = byte.is_ascii_digit().then(|| u64::from(byte - b'0'))?;
         value.checked_mul(10)?.checked_add(digit)
