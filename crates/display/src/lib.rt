@@ -9,7 +9,7 @@ ghost use Rattle.display.specs.Line.{lineOf, written};
 ghost use Rattle.display.specs.Pieces.{Puts};
 
 // Lays the first n bytes of a piece over `col` from `at` on.
-fn lay(col: &mut [u8], at: usize, piece: &[u8], n: usize)
+pub fn lay(col: &mut [u8], at: usize, piece: &[u8], n: usize)
     requires { ⌜ (at + n ≤ length (now col)) × (n ≤ length (now piece)) ⌝ }
     ensures { λ _. ⌜ now (col .exit) ≡ laidAt at (take n (now (piece .entry))) (now (col .entry)) ⌝ }
 {
@@ -21,7 +21,7 @@ fn lay(col: &mut [u8], at: usize, piece: &[u8], n: usize)
 }
 
 // Puts a word and the digits of n behind the first `at` bytes of a line, and says where the line then ends.
-fn put(line: &mut [u8], at: usize, word: &[u8], n: u64) -> usize
+pub fn put(line: &mut [u8], at: usize, word: &[u8], n: u64) -> usize
     requires { ⌜ at + length (now word) + 20 ≤ length (now line) ⌝ }
     ensures { λ r. ⌜ Puts (now (word .entry) ++ decimal n) (length (now (word .entry)) + 20) at (now (line .entry)) (now (line .exit)) r ⌝ }
 {

@@ -36,7 +36,7 @@ module _ (base nought : ℕ) where
 -- ---- decimal
 
 -- a number has no more digits than it is said to have
-enough : (k n : ℕ) → n < 10 * 10 ^ k → n < 10 ^ placesIn k n
+pub enough : (k n : ℕ) → n < 10 * 10 ^ k → n < 10 ^ placesIn k n
 unfolding placesIn
 enough zero n h = omega arith
 enough (suc k) n h =
@@ -44,13 +44,13 @@ enough (suc k) n h =
     (λ t. rw (one-place (suc k) n (ltb-true n 10 t)) (omega (arith, ltb-true n 10 t)))
     (λ f. rw (one-more k n (ltb-false n 10 f)) (omega (arith, enough k (n / 10) (omega arith))))
 
-all-digits : (k n : ℕ) (behind : List ℕ) → allDigits behind ≡ true → allDigits (spelled 10 48 k n behind) ≡ true
+pub all-digits : (k n : ℕ) (behind : List ℕ) → allDigits behind ≡ true → allDigits (spelled 10 48 k n behind) ≡ true
 unfolding spelled allDigits
 all-digits zero n behind e = e
 all-digits (suc k) n behind e =
     all-digits k (n / 10) _ (rw (le-leb 48 (48 + n % 10) (omega arith), le-leb (48 + n % 10) 57 (omega arith)) e)
 
-length-spelled : (base nought k n : ℕ) (behind : List ℕ) → length (spelled base nought k n behind) ≡ k + length behind
+pub length-spelled : (base nought k n : ℕ) (behind : List ℕ) → length (spelled base nought k n behind) ≡ k + length behind
 unfolding spelled
 length-spelled base nought zero n behind = sym (zero-add _)
 length-spelled base nought (suc k) n behind = length-spelled base nought k (n / base) _ ∙ omega arith

@@ -1,0 +1,3 @@
+-- What holds of the pieces of a line (Lines), and lines worked out (Cases).
+pub mod Lines
+pub mod Cases

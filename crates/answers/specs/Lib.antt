@@ -1,0 +1,2 @@
+-- The lines that answer a sheet.
+pub mod Answer
