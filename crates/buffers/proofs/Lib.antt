@@ -1,4 +1,3 @@
--- What the proofs of the public calls share: Answers (what a call gives), Looks (what is read off), Fresh (set-up).
-pub mod Answers
+-- What the proofs of the public calls share: Looks (what is read off), Fresh (set-up).
 pub mod Looks
 pub mod Fresh

@@ -1,20 +1,13 @@
-// The buffer. Its columns are lent to the core, which copies nothing large; a call by value hands the buffer over and back.
+// The buffer: set up, and read.
 ghost use mathlib.Core.Path.{_≡_};
-ghost use lib.ListN.{length};
-ghost use Prim.Native.Nat.{_/_};
 ghost use Rattle.rules.specs.World.{leastRead};
 ghost use Rattle.rules.specs.Queues.{queued as queuedOf, accountAt, messageAt};
-ghost use Rattle.rules.specs.Calls.{isOpen, within as inRange, setUpBuffer, addMessage, removeAccounts, begin as beginBy, commit as commitBy, rollback as rollbackBy};
-ghost use Rattle.columns.specs.Rows.{rowsOf};
-ghost use Rattle.message.specs.Real.{Real, offer};
+ghost use Rattle.rules.specs.Calls.{isOpen, within as inRange, setUpBuffer};
+ghost use Rattle.message.specs.Real.{Real};
 ghost use Rattle.message.specs.Seen.{seenAccount, seenMessage};
 ghost use Rattle.queues.specs.Meant.{meant};
-ghost use Rattle.queues.specs.Append.{addC};
-ghost use Rattle.queues.specs.Compact.{removeC};
-ghost use Rattle.queues.specs.Transact.{beginC, commitC, rollbackC};
 ghost use Rattle.buffers.specs.Buffers.{colsOf, GoodBuffer, Gives, freshC, setUpC, countsOf, filledBy};
 use message::Code;
-use message::Message;
 use message::SeenAccount;
 use message::SeenMessage;
 use numbers::Place;
@@ -97,178 +90,6 @@ impl Buffer {
         Answer {
             code: Code::SetUp,
             buffer: fresh(1, 1),
-        }
-    }
-
-    // ---- calls that change the buffer
-
-    // Adds a message to the end of its account's queue: codes 2 to 5.
-    pub fn add_message(self, m: Message) -> Answer
-        requires { ⌜ GoodBuffer self ⌝ }
-        ensures { λ r. ⌜ Gives (addMessage Real (offer m) (meant (colsOf self))) (addC m (colsOf self)) (r .code) (r .buffer) ⌝ }
-    {
-        let mut owner = self.owner;
-        let mut kind = self.kind;
-        let mut form = self.form;
-        let mut time = self.time;
-        let mut address = self.address;
-        let mut hash = self.hash;
-        let mut accounts = self.accounts;
-        let mut numbers = self.numbers;
-        let code = append::add(
-            m,
-            &mut owner,
-            &mut kind,
-            &mut form,
-            &mut time,
-            &mut address,
-            &mut hash,
-            &mut accounts,
-            &mut numbers,
-        );
-        Answer {
-            code,
-            buffer: Buffer {
-                owner,
-                kind,
-                form,
-                time,
-                address,
-                hash,
-                accounts,
-                numbers,
-            },
-        }
-    }
-
-    // Removes the queues of the named accounts, 32 bytes a name: code 8 if one of them holds an external. Names without a queue, names given
-    // twice and bytes behind the last whole name do nothing.
-    pub fn remove_int_messages_by_accounts(self, names: &[u8]) -> Answer
-        requires { ⌜ GoodBuffer self ⌝ }
-        ensures { λ r. ⌜ Gives (removeAccounts Real (rowsOf (length (now (names .entry)) / 32) (now (names .entry))) (meant (colsOf self))) (removeC (now (names .entry)) (colsOf self)) (r .code) (r .buffer) ⌝ }
-    {
-        let mut owner = self.owner;
-        let mut kind = self.kind;
-        let mut form = self.form;
-        let mut time = self.time;
-        let mut address = self.address;
-        let mut hash = self.hash;
-        let mut accounts = self.accounts;
-        let mut numbers = self.numbers;
-        let code = removal::remove(
-            names,
-            &mut owner,
-            &mut kind,
-            &mut form,
-            &mut time,
-            &mut address,
-            &mut hash,
-            &mut accounts,
-            &mut numbers,
-        );
-        Answer {
-            code,
-            buffer: Buffer {
-                owner,
-                kind,
-                form,
-                time,
-                address,
-                hash,
-                accounts,
-                numbers,
-            },
-        }
-    }
-
-    // Opens a transaction: code 7 if one is open.
-    pub fn begin(self) -> Answer
-        requires { ⌜ GoodBuffer self ⌝ }
-        ensures { λ r. ⌜ Gives (beginBy Real (meant (colsOf self))) (beginC (colsOf self)) (r .code) (r .buffer) ⌝ }
-    {
-        let mut owner = self.owner;
-        let mut kind = self.kind;
-        let mut form = self.form;
-        let mut time = self.time;
-        let mut address = self.address;
-        let mut hash = self.hash;
-        let mut accounts = self.accounts;
-        let mut numbers = self.numbers;
-        let code = transactions::begin(
-            &mut owner,
-            &mut kind,
-            &mut form,
-            &mut time,
-            &mut address,
-            &mut hash,
-            &mut accounts,
-            &mut numbers,
-        );
-        Answer {
-            code,
-            buffer: Buffer {
-                owner,
-                kind,
-                form,
-                time,
-                address,
-                hash,
-                accounts,
-                numbers,
-            },
-        }
-    }
-
-    // Ends a transaction and leaves the buffer as it is: code 6 if none is open.
-    pub fn commit(self) -> Answer
-        requires { ⌜ GoodBuffer self ⌝ }
-        ensures { λ r. ⌜ Gives (commitBy Real (meant (colsOf self))) (commitC (colsOf self)) (r .code) (r .buffer) ⌝ }
-    {
-        let mut after = self;
-        let mut numbers = self.numbers;
-        let code = transactions::commit(&mut numbers);
-        after.numbers = numbers;
-        Answer {
-            code,
-            buffer: after,
-        }
-    }
-
-    // Ends a transaction and gives back every queue, the order, the counts and the minimum as at begin: code 6 if none is open.
-    pub fn rollback(self) -> Answer
-        requires { ⌜ GoodBuffer self ⌝ }
-        ensures { λ r. ⌜ Gives (rollbackBy Real (meant (colsOf self))) (rollbackC (colsOf self)) (r .code) (r .buffer) ⌝ }
-    {
-        let mut owner = self.owner;
-        let mut kind = self.kind;
-        let mut form = self.form;
-        let mut time = self.time;
-        let mut address = self.address;
-        let mut hash = self.hash;
-        let mut accounts = self.accounts;
-        let mut numbers = self.numbers;
-        let code = transactions::rollback(
-            &mut owner,
-            &mut kind,
-            &mut form,
-            &mut time,
-            &mut address,
-            &mut hash,
-            &mut accounts,
-            &mut numbers,
-        );
-        Answer {
-            code,
-            buffer: Buffer {
-                owner,
-                kind,
-                form,
-                time,
-                address,
-                hash,
-                accounts,
-                numbers,
-            },
         }
     }
 

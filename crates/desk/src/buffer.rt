@@ -1,6 +1,5 @@
 // The commands of the buffer.
 ghost use Rattle.lintelsong.specs.Closed.{GoodBuffer};
-use crate::Reply;
 use crate::names;
 use lintelsong::Buffer;
 use lintelsong::buffer_calls::Answer;
@@ -8,6 +7,7 @@ use message::Form;
 use message::Message;
 use scenario::commands::BufferOrder;
 use scenario::commands::Record;
+use scenario::replies::Reply;
 
 // What an order leaves: the buffer, and the answer.
 pub struct Done {

@@ -1,7 +1,6 @@
 // The fill of a group from the buffer, with what is laid ready on the tray.
 ghost use Rattle.lintelsong.specs.Closed.{GoodBuffer, GoodGroup, GoodSet};
 ghost use Rattle.desk.specs.Desks.{GoodTray, KeyRoom};
-use crate::Reply;
 use crate::tray::Tray;
 use filling::Asked;
 use lintelsong::Buffer;
@@ -9,6 +8,7 @@ use lintelsong::Group;
 use lintelsong::Skipped;
 use message::Filter;
 use scenario::commands::Ask;
+use scenario::replies::Reply;
 
 // What fills leave, and the answer.
 pub struct Filled {

@@ -1,8 +1,8 @@
 // A shelf of four groups, of which the first `made` are set up; the others are fresh, with room for one slot.
 ghost use Rattle.lintelsong.specs.Closed.{GoodGroup};
 ghost use Rattle.desk.specs.Desks.{GoodShelf};
-use crate::Reply;
 use lintelsong::Group;
+use scenario::replies::Reply;
 
 pub struct Shelf {
     pub made: usize,

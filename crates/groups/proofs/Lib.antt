@@ -1,4 +1,3 @@
 -- What the proofs of the public calls share: Looks (what is read off), SetUp (both answers of a set-up).
 pub mod Looks
 pub mod SetUp
-pub mod Joining

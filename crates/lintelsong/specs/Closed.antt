@@ -18,6 +18,7 @@ use Rattle.entry_rules.specs.Calling.{Call, args, setOf}
 use Rattle.fill_rules.specs.Fills.{Keys, rowsOfKeys, Says, says, Left, left, filledOf}
 use Rattle.buffers.specs.Buffers as buffers
 use Rattle.groups.specs.Groups as groups
+use Rattle.joining.specs.Joins as joining
 use Rattle.skipped.specs.Sets as skipped
 use Rattle.filling.specs.declared.Asked.{Asked}
 use Rattle.filling.specs.Filling as filling
@@ -50,7 +51,7 @@ abbrev pub SetsUp : ℕ → Code → Group → Type 0
 SetsUp S code g = groups.SetsUp S code (g .held)
 
 abbrev pub Joins : (l r : Group) → Code → (l′ r′ : Group) → Type 0
-Joins l r code l′ r′ = groups.Joins (l .held) (r .held) code (l′ .held) (r′ .held)
+Joins l r code l′ r′ = joining.Joins (l .held) (r .held) code (l′ .held) (r′ .held)
 
 -- ---- the skipped set
 

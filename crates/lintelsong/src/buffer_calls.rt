@@ -1,4 +1,4 @@
-// The calls on a buffer. Each hands what the buffer holds to the call of that name in crate `buffers`, and encloses what comes back.
+// The calls on a buffer. Each hands what the buffer holds to the call of crate `buffers` (what is read) or `changes`, and encloses what comes back.
 ghost use mathlib.Core.Path.{_≡_};
 ghost use lib.ListN.{length};
 ghost use Prim.Native.Nat.{_/_};
@@ -53,7 +53,7 @@ impl Buffer {
         ensures { λ r. ⌜ Gives (addMessage Real (offer m) (meant (colsOf self))) (addC m (colsOf self)) (r .code) (r .buffer) ⌝ }
     {
         let b = self.held;
-        let added = b.add_message(m);
+        let added = changes::add(b, m);
         let code = added.code;
         let held = added.buffer;
         Answer {
@@ -69,7 +69,7 @@ impl Buffer {
         ensures { λ r. ⌜ Gives (removeAccounts Real (rowsOf (length (now (names .entry)) / 32) (now (names .entry))) (meant (colsOf self))) (removeC (now (names .entry)) (colsOf self)) (r .code) (r .buffer) ⌝ }
     {
         let b = self.held;
-        let removed = b.remove_int_messages_by_accounts(names);
+        let removed = changes::remove(b, names);
         let code = removed.code;
         let held = removed.buffer;
         Answer {
@@ -84,7 +84,7 @@ impl Buffer {
         ensures { λ r. ⌜ Gives (beginBy Real (meant (colsOf self))) (beginC (colsOf self)) (r .code) (r .buffer) ⌝ }
     {
         let b = self.held;
-        let begun = b.begin();
+        let begun = changes::begin(b);
         let code = begun.code;
         let held = begun.buffer;
         Answer {
@@ -99,7 +99,7 @@ impl Buffer {
         ensures { λ r. ⌜ Gives (commitBy Real (meant (colsOf self))) (commitC (colsOf self)) (r .code) (r .buffer) ⌝ }
     {
         let b = self.held;
-        let committed = b.commit();
+        let committed = changes::commit(b);
         let code = committed.code;
         let held = committed.buffer;
         Answer {
@@ -114,7 +114,7 @@ impl Buffer {
         ensures { λ r. ⌜ Gives (rollbackBy Real (meant (colsOf self))) (rollbackC (colsOf self)) (r .code) (r .buffer) ⌝ }
     {
         let b = self.held;
-        let undone = b.rollback();
+        let undone = changes::rollback(b);
         let code = undone.code;
         let held = undone.buffer;
         Answer {

@@ -159,7 +159,7 @@ impl Group {
     {
         let mine = self.held;
         let theirs = right.held;
-        let joined = mine.join(theirs);
+        let joined = joining::join(mine, theirs);
         let code = joined.code;
         let l = joined.left;
         let r = joined.right;

@@ -1,8 +1,8 @@
 // What is printed of a line: its echo, the answer, and that it is no command; and how a name and a message are printed.
 use crate::out;
 use crate::out::Pen;
-use desk::Reply;
 use message::Message;
+use scenario::replies::Reply;
 
 // A byte as a number.
 pub fn wide(b: u8) -> u64 {

@@ -4,10 +4,10 @@ ghost use Rattle.desk.specs.Desks.{KeyRoom};
 mod input;
 mod orders;
 
-use desk::Reply;
 use orders::Task;
 use printout::out::Pen;
 use scenario::commands::Command;
+use scenario::replies::Reply;
 
 // Line by line, to the end of the input, to the first line that is no command, or until a write fails. The buffer, the tray and the shelf
 // stay here, by value: each command takes what it goes to, and gives it back.

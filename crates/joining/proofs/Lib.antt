@@ -1,0 +1,2 @@
+-- What the proofs of a join share.
+pub mod Joining

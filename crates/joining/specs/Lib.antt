@@ -1,0 +1,2 @@
+-- What the contracts of joining cite.
+pub mod Joins
