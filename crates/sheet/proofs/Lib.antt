@@ -1,0 +1,1 @@
+-- Nothing of its own: the proofs of the functions alone.
