@@ -1,16 +1,11 @@
 // The buffer: set up, and read.
 ghost use mathlib.Core.Path.{_≡_};
 ghost use Rattle.rules.specs.World.{leastRead};
-ghost use Rattle.rules.specs.Queues.{queued as queuedOf, accountAt, messageAt};
 ghost use Rattle.rules.specs.Calls.{isOpen, within as inRange, setUpBuffer};
 ghost use Rattle.message.specs.Real.{Real};
-ghost use Rattle.message.specs.Seen.{seenAccount, seenMessage};
 ghost use Rattle.queues.specs.Meant.{meant};
 ghost use Rattle.buffers.specs.Buffers.{colsOf, GoodBuffer, Gives, freshC, setUpC, countsOf, filledBy};
 use message::Code;
-use message::SeenAccount;
-use message::SeenMessage;
-use numbers::Place;
 
 // A buffer for at most 1,024 messages of at most 256 accounts. Rows 1,024 to 2,047 and accounts 256 to 511 are the backup room.
 pub struct Buffer {
@@ -144,20 +139,6 @@ impl Buffer {
         open != 0
     }
 
-    // How many messages the queue of an account holds; 0 if it has none.
-    pub fn account_messages_count(self, name: [u8; 32]) -> usize
-        requires { ⌜ GoodBuffer self ⌝ }
-        ensures { λ r. ⌜ r ≡ queuedOf Real name (meant (colsOf self) .now) ⌝ }
-    {
-        let owner = self.owner;
-        let accounts = self.accounts;
-        let numbers = self.numbers;
-        let x = name;
-        let held = numbers[2] as usize;
-        let places = numbers[3] as usize;
-        queues::queued(&owner, held, &accounts, places, &x)
-    }
-
     // Whether the buffer is filled: by count, when it holds at least `limit` messages; by slots, never.
     pub fn check_is_filled(self, limit: u64) -> Filled
         requires { ⌜ GoodBuffer self ⌝ }
@@ -167,54 +148,6 @@ impl Buffer {
         Filled {
             count: limit <= numbers[2],
             slots: false,
-        }
-    }
-
-    // ---- the walk in order
-
-    // The account at a place of the order; none past the end.
-    pub fn account_at(self, place: Place) -> SeenAccount
-        requires { ⌜ GoodBuffer self ⌝ }
-        ensures { λ r. ⌜ r ≡ seenAccount (accountAt Real (place .0) (meant (colsOf self) .now)) ⌝ }
-    {
-        let accounts = self.accounts;
-        let numbers = self.numbers;
-        let p = numbers::wide16(place.0);
-        if p < numbers[3] as usize {
-            return SeenAccount {
-                found: true,
-                account: columns::get_row(&accounts, p),
-            };
-        }
-        SeenAccount {
-            found: false,
-            account: [0u8; 32],
-        }
-    }
-
-    // The message at a position of the queue at a place of the order; none past either end.
-    pub fn message_at(self, place: Place, position: usize) -> SeenMessage
-        requires { ⌜ GoodBuffer self ⌝ }
-        ensures { λ r. ⌜ r ≡ seenMessage (messageAt Real (place .0) position (meant (colsOf self) .now)) ⌝ }
-    {
-        let owner = self.owner;
-        let kind = self.kind;
-        let form = self.form;
-        let time = self.time;
-        let address = self.address;
-        let hash = self.hash;
-        let numbers = self.numbers;
-        let n = numbers[2] as usize;
-        let row = queues::row_of(&owner, n, place.0, position);
-        if row < n {
-            return SeenMessage {
-                found: true,
-                message: records::message_at(&kind, &form, &time, &address, &hash, row),
-            };
-        }
-        SeenMessage {
-            found: false,
-            message: message::blank(),
         }
     }
 }

@@ -1,18 +1,13 @@
 // The group: slots by rising number, each with its accounts, and the accounts' lists of messages in order of collection.
 ghost use mathlib.Core.Path.{_≡_};
-ghost use Rattle.rules.specs.World.{nth, isNil};
-ghost use Rattle.rules.specs.Queues.{has, at as listAt, accounts as accountsOf};
+ghost use Rattle.rules.specs.World.{isNil};
+ghost use Rattle.rules.specs.Queues.{has};
 ghost use Rattle.rules.specs.Fill.{isFilled};
-ghost use lib.ListN.{getD};
-ghost use mathlib.Core.List.{[]};
 ghost use Rattle.message.specs.Real.{Real};
-ghost use Rattle.message.specs.Seen.{seenAccount, seenMessage};
 ghost use Rattle.slots.specs.Meant.{meant};
 ghost use Rattle.slots.specs.Join.{freshT};
-ghost use Rattle.groups.specs.Groups.{tableOf, GoodGroup, SetsUp, countsOf, seenId, seenSlot, accountsAt, Displays};
+ghost use Rattle.groups.specs.Groups.{tableOf, GoodGroup, SetsUp, countsOf, seenId, Displays};
 use message::Code;
-use message::SeenAccount;
-use message::SeenMessage;
 use numbers::SlotId;
 
 // A group of at most 64 slots, 1,024 accounts and 1,024 messages.
@@ -132,18 +127,6 @@ impl Group {
         slots == 0
     }
 
-    // Whether an account has a list in the group.
-    pub fn contains_account(self, name: [u8; 32]) -> bool
-        requires { ⌜ GoodGroup self ⌝ }
-        ensures { λ r. ⌜ r ≡ has Real name (meant (tableOf self) .now .lists) ⌝ }
-    {
-        let accounts = self.accounts;
-        let numbers = self.numbers;
-        let held = numbers[2] as usize;
-        let x = name;
-        columns::find_row(&accounts, held, &x) < held
-    }
-
     // Whether it is filled: at least as many slots as asked for, and every bucket below the height empty.
     pub fn check_is_filled(self, asked: u64, height: usize) -> bool
         requires { ⌜ GoodGroup self ⌝ }
@@ -167,129 +150,6 @@ impl Group {
         SeenId {
             found: numbers[7] != 0,
             id: SlotId(last as u16),
-        }
-    }
-
-    // ---- the walks
-
-    // The slot at a position, by rising number; none past the end.
-    pub fn slot_at(self, position: usize) -> SeenSlot
-        requires { ⌜ GoodGroup self ⌝ }
-        ensures { λ r. ⌜ r ≡ seenSlot (nth position (meant (tableOf self) .now .slots)) ⌝ }
-    {
-        let number = self.number;
-        let ints = self.ints;
-        let exts = self.exts;
-        let numbers = self.numbers;
-        if position < numbers[1] as usize {
-            return SeenSlot {
-                found: true,
-                id: SlotId(number[position]),
-                ints: ints[position],
-                exts: exts[position],
-            };
-        }
-        SeenSlot {
-            found: false,
-            id: SlotId(0),
-            ints: 0,
-            exts: 0,
-        }
-    }
-
-    // The k-th account of the slot at a position; none past either end.
-    pub fn slot_account_at(self, position: usize, k: usize) -> SeenAccount
-        requires { ⌜ GoodGroup self ⌝ }
-        ensures { λ r. ⌜ r ≡ seenAccount (nth k (accountsAt (nth position (meant (tableOf self) .now .slots)))) ⌝ }
-    {
-        let home = self.home;
-        let accounts = self.accounts;
-        let numbers = self.numbers;
-        let held = numbers[2] as usize;
-        let row = slots::home_of(&home, held, position, k);
-        if row < held {
-            return SeenAccount {
-                found: true,
-                account: columns::get_row(&accounts, row),
-            };
-        }
-        SeenAccount {
-            found: false,
-            account: [0u8; 32],
-        }
-    }
-
-    // The account with the k-th list; none past the end.
-    pub fn account_at(self, k: usize) -> SeenAccount
-        requires { ⌜ GoodGroup self ⌝ }
-        ensures { λ r. ⌜ r ≡ seenAccount (nth k (accountsOf Real (meant (tableOf self) .now .lists))) ⌝ }
-    {
-        let accounts = self.accounts;
-        let numbers = self.numbers;
-        let listed = numbers[2] as usize;
-        if k < listed {
-            return SeenAccount {
-                found: true,
-                account: columns::get_row(&accounts, k),
-            };
-        }
-        SeenAccount {
-            found: false,
-            account: [0u8; 32],
-        }
-    }
-
-    // The k-th message of an account's list; none past the end or without a list.
-    pub fn message_at(self, name: [u8; 32], k: usize) -> SeenMessage
-        requires { ⌜ GoodGroup self ⌝ }
-        ensures { λ r. ⌜ r ≡ seenMessage (nth k (listAt Real name (meant (tableOf self) .now .lists))) ⌝ }
-    {
-        let accounts = self.accounts;
-        let owner = self.owner;
-        let kind = self.kind;
-        let form = self.form;
-        let time = self.time;
-        let address = self.address;
-        let hash = self.hash;
-        let numbers = self.numbers;
-        let x = name;
-        let seat = columns::find_row(&accounts, numbers[2] as usize, &x);
-        let n = numbers[3] as usize;
-        let row = queues::row_of(&owner, n, seat as u16, k);
-        if row < n {
-            return SeenMessage {
-                found: true,
-                message: records::message_at(&kind, &form, &time, &address, &hash, row),
-            };
-        }
-        SeenMessage {
-            found: false,
-            message: message::blank(),
-        }
-    }
-
-    // The k-th slot number that the bucket of a count lists; none past either end.
-    pub fn bucket_at(self, count: usize, k: usize) -> SeenId
-        requires { ⌜ GoodGroup self ⌝ }
-        ensures { λ r. ⌜ r ≡ seenId (nth k (getD (meant (tableOf self) .now .index) count [])) ⌝ }
-    {
-        let cells = self.buckets;
-        if 17 <= count || 64 <= k {
-            return SeenId {
-                found: false,
-                id: SlotId(0),
-            };
-        }
-        let entry = buckets::entry(cells, count, k);
-        if entry < buckets::NONE {
-            return SeenId {
-                found: true,
-                id: SlotId(entry as u16),
-            };
-        }
-        SeenId {
-            found: false,
-            id: SlotId(0),
         }
     }
 

@@ -167,7 +167,7 @@ impl Buffer {
         ensures { λ r. ⌜ r ≡ queuedOf Real name (meant (colsOf self) .now) ⌝ }
     {
         let b = self.held;
-        b.account_messages_count(name)
+        buffer_walks::account_messages_count(b, name)
     }
 
     // Whether the buffer is filled: by count, when it holds at least `limit` messages; by slots, never.
@@ -187,7 +187,7 @@ impl Buffer {
         ensures { λ r. ⌜ r ≡ seenAccount (accountAt Real (place .0) (meant (colsOf self) .now)) ⌝ }
     {
         let b = self.held;
-        b.account_at(place)
+        buffer_walks::account_at(b, place)
     }
 
     // The message at a position of the queue at a place of the order; none past either end.
@@ -196,6 +196,6 @@ impl Buffer {
         ensures { λ r. ⌜ r ≡ seenMessage (messageAt Real (place .0) position (meant (colsOf self) .now)) ⌝ }
     {
         let b = self.held;
-        b.message_at(place, position)
+        buffer_walks::message_at(b, place, position)
     }
 }

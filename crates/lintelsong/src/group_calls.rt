@@ -73,7 +73,7 @@ impl Group {
         ensures { λ r. ⌜ r ≡ has Real name (meant (tableOf self) .now .lists) ⌝ }
     {
         let g = self.held;
-        g.contains_account(name)
+        group_walks::contains_account(g, name)
     }
 
     // Whether it is filled: at least as many slots as asked for, and every bucket below the height empty.
@@ -102,7 +102,7 @@ impl Group {
         ensures { λ r. ⌜ r ≡ seenSlot (nth position (meant (tableOf self) .now .slots)) ⌝ }
     {
         let g = self.held;
-        g.slot_at(position)
+        group_walks::slot_at(g, position)
     }
 
     // The k-th account of the slot at a position; none past either end.
@@ -111,7 +111,7 @@ impl Group {
         ensures { λ r. ⌜ r ≡ seenAccount (nth k (accountsAt (nth position (meant (tableOf self) .now .slots)))) ⌝ }
     {
         let g = self.held;
-        g.slot_account_at(position, k)
+        group_walks::slot_account_at(g, position, k)
     }
 
     // The account with the k-th list; none past the end.
@@ -120,7 +120,7 @@ impl Group {
         ensures { λ r. ⌜ r ≡ seenAccount (nth k (accountsOf Real (meant (tableOf self) .now .lists))) ⌝ }
     {
         let g = self.held;
-        g.account_at(k)
+        group_walks::account_at(g, k)
     }
 
     // The k-th message of an account's list; none past the end or without a list.
@@ -129,7 +129,7 @@ impl Group {
         ensures { λ r. ⌜ r ≡ seenMessage (nth k (listAt Real name (meant (tableOf self) .now .lists))) ⌝ }
     {
         let g = self.held;
-        g.message_at(name, k)
+        group_walks::message_at(g, name, k)
     }
 
     // The k-th slot number that the bucket of a count lists; none past either end.
@@ -138,7 +138,7 @@ impl Group {
         ensures { λ r. ⌜ r ≡ seenId (nth k (getD (meant (tableOf self) .now .index) count [])) ⌝ }
     {
         let g = self.held;
-        g.bucket_at(count, k)
+        group_walks::bucket_at(g, count, k)
     }
 
     // Writes the Display line to the start of what is lent and says how long it is; what is lent stays as it is where the line does not fit.

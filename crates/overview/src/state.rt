@@ -6,8 +6,8 @@ use crate::group_lines;
 use desk::shelf::Shelf;
 use desk::tray::Tray;
 use lintelsong::Buffer;
+use pages::out::Pen;
 use printout::buffer_lines;
-use printout::out::Pen;
 use printout::rest_lines;
 
 // The lines of the groups that are set up.

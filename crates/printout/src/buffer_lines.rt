@@ -1,11 +1,11 @@
 // The lines of the buffer: what it holds, and the queue of each account in order.
 ghost use Rattle.lintelsong.specs.Closed.{GoodBuffer};
-use crate::out;
-use crate::out::Pen;
-use crate::show;
 use buffers::buffer::Counts;
 use lintelsong::Buffer;
 use numbers::Place;
+use pages::out;
+use pages::out::Pen;
+use pages::show;
 
 // The room of the buffer and what it holds.
 fn counts(page: &mut [u8], pen: Pen, c: Counts) -> Pen {

@@ -1,11 +1,7 @@
 // Reads scenarios on standard input and prints what the buffer and the groups answer and hold, in the language of docs/SCENARIOS.md.
 ghost use Rattle.desk.specs.Desks.{KeyRoom};
-
-mod input;
-mod orders;
-
-use orders::Task;
-use printout::out::Pen;
+use intake::orders::Task;
+use pages::out::Pen;
 use scenario::commands::Command;
 use scenario::replies::Reply;
 
@@ -24,9 +20,9 @@ fn lines(
     let mut b = desk::buffer::fresh();
     let mut t = desk::tray::fresh();
     let mut s = desk::shelf::fresh();
-    let mut c = orders::fresh();
+    let mut c = intake::orders::fresh();
     while c.on && c.number < u64::MAX {
-        let next = orders::take(c, s.made, chunk, line, numbers, page);
+        let next = intake::orders::take(c, s.made, chunk, line, numbers, page);
         c = next.course;
         let task = next.task;
         if let Task::Do(times, n, command) = task {
@@ -65,11 +61,11 @@ fn lines(
                 Command::Full(limit) => reply = desk::buffer::full(b, limit),
                 Command::Wrong => {}
             }
-            let mut pen = printout::show::reply(page, c.pen, reply);
+            let mut pen = pages::show::reply(page, c.pen, reply);
             if t.loud {
                 pen = overview::state::state(page, pen, b, s, t, lts, hashes);
             }
-            c = orders::with_pen(c, pen);
+            c = intake::orders::with_pen(c, pen);
         }
     }
     let pen = c.pen;
@@ -88,7 +84,7 @@ fn run(
     requires { ⌜ KeyRoom (now lts) (now hashes) ⌝ }
 {
     let pen = lines(chunk, line, numbers, page, lts, hashes);
-    printout::out::flush(page, pen);
+    pages::out::flush(page, pen);
 }
 
 fn main() {

@@ -1,0 +1,2 @@
+-- What the proofs of the walk share.
+pub mod Looks

@@ -1,0 +1,2 @@
+-- What the proofs of the walks share.
+pub mod Looks
