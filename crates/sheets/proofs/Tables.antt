@@ -6,9 +6,9 @@ use native.Mathlib.Omega.{arith}
 use lib.ListN.{length, replicate, length-append, length-replicate}
 use Rattle.columns.specs.Rows.{flat}
 use Rattle.columns.proofs.Laid.{length-laid}
-use Rattle.text.specs.Sheet.{skipLimits, messageLimits, fillLimits, Within, AllWithin, Reading, sheet, line, read}
+use Rattle.sheet_rules.specs.Sheet.{skipLimits, messageLimits, fillLimits, Within, AllWithin, Reading, sheet, line, read}
 use Rattle.text.specs.Steps.{tabled, laidOut}
-use Rattle.text.proofs.Texts.{read-back}
+use Rattle.sheet_rules.proofs.Texts.{read-back}
 use Rattle.sheets.specs.Steps.{Tabled}
 
 row-wide : (limits row : List ℕ) → Within limits row → length row ≡ length limits

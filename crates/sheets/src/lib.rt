@@ -5,7 +5,7 @@ ghost use lib.ListN.{length};
 ghost use Rattle.display.specs.Pieces.{Puts};
 ghost use Rattle.lintelsong.specs.Closed.{colsOf, GoodBuffer};
 ghost use Rattle.queues.specs.Meant.{meant};
-ghost use Rattle.text.specs.Sheet.{read};
+ghost use Rattle.sheet_rules.specs.Sheet.{read};
 ghost use Rattle.text.specs.Steps.{laidOut};
 ghost use Rattle.sheets.specs.Answer.{fresh as freshHeld, leftOf, playLines, answerTo};
 ghost use Rattle.sheets.specs.Steps.{meantBy, GoodState, Tabled};

@@ -1,10 +1,4 @@
--- Numbers as they are written (Numerals); what is read is what the text says (Texts); a reported line is the first (First, Begins); the steps
--- of reading (Words, Loops, Sections); texts worked out (Cases).
-pub mod Numerals
-pub mod Texts
-pub mod First
-pub mod Begins
+-- The steps of reading.
 pub mod Words
 pub mod Loops
 pub mod Sections
-pub mod Cases

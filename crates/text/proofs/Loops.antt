@@ -20,9 +20,9 @@ use Rattle.columns.proofs.Scans.{turns}
 use Rattle.text.specs.declared.lines.Numeral.{Numeral}
 use Rattle.text.specs.declared.lines.Line.{Line}
 use Rattle.text.specs.declared.lines.Lines.{Lines}
-use Rattle.text.specs.Sheet.{Read, took, broken, after, stopBy, numberAt, lineAt, linesAt}
+use Rattle.sheet_rules.specs.Sheet.{Read, took, broken, after, stopBy, numberAt, lineAt, linesAt}
 use Rattle.text.specs.Steps.{ReadsNumber, ReadsLine, ReadsLines}
-use Rattle.text.proofs.Texts.{byRead}
+use Rattle.sheet_rules.proofs.Texts.{byRead}
 
 -- what was read before stands in front
 abbrev front : {A : Type 0} → List A → Read (List A) → Read (List A)

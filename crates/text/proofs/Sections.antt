@@ -14,10 +14,10 @@ use Rattle.text.specs.declared.lines.Numeral.{Numeral}
 use Rattle.text.specs.declared.lines.Lines.{Lines}
 use Rattle.text.specs.declared.sheet.Section.{Section}
 use Rattle.text.specs.declared.sheet.Parsed.{Parsed}
-use Rattle.text.specs.Sheet.{Sheet, skipLimits, messageLimits, fillLimits, Read, took, broken, numberAt, linesAt, sectionAt, endAt, sheetAt, sheet, line, readingOf, read}
+use Rattle.sheet_rules.specs.Sheet.{Sheet, skipLimits, messageLimits, fillLimits, Read, took, broken, numberAt, linesAt, sectionAt, endAt, sheetAt, sheet, line, readingOf, read}
 use Rattle.text.specs.Steps.{ReadsNumber, ReadsLines, ReadsSection, laidOut}
-use Rattle.text.proofs.Numerals.{number-back}
-use Rattle.text.proofs.Texts.{lines-back}
+use Rattle.sheet_rules.proofs.Numerals.{number-back}
+use Rattle.sheet_rules.proofs.Texts.{lines-back}
 
 -- ---- a section
 

@@ -14,9 +14,9 @@ use Rattle.words.specs.Cut.{before, Leads}
 use Rattle.words.specs.Digits.{isNumber, valueOf, numberOf}
 use Rattle.words.specs.declared.decimal.Number.the-variants.{Value, Nothing}
 use Rattle.text.specs.declared.lines.Numeral.{Numeral}
-use Rattle.text.specs.Sheet.{took, broken, plain, isPlainNumber, numberAt}
+use Rattle.sheet_rules.specs.Sheet.{took, broken, plain, isPlainNumber, numberAt}
 use Rattle.text.specs.Steps.{Bounds, ReadsNumber}
-use Rattle.text.proofs.Numerals.{number-parts}
+use Rattle.sheet_rules.proofs.Numerals.{number-parts}
 
 -- ---- a word
 

@@ -1,4 +1,2 @@
--- What the contracts of text cite: the sheet, its text and its reading (Sheet), and what the steps of reading leave (Steps).
-pub mod Sheet
+-- What the contracts of text cite: what the steps of reading leave.
 pub mod Steps
-pub mod First

@@ -13,7 +13,7 @@ use Rattle.text.specs.declared.lines.Line.{Line}
 use Rattle.text.specs.declared.lines.Lines.{Lines}
 use Rattle.text.specs.declared.sheet.Section.{Section}
 use Rattle.text.specs.declared.sheet.Parsed.{Parsed}
-use Rattle.text.specs.Sheet.{took, broken, isPlainNumber, numberAt, lineAt, linesAt, sectionAt, Reading, sheet, line}
+use Rattle.sheet_rules.specs.Sheet.{took, broken, isPlainNumber, numberAt, lineAt, linesAt, sectionAt, Reading, sheet, line}
 
 -- a word read as a number that is not above the limit
 pub record Bounds (word : List ℕ) (limit next : ℕ) (r : Numeral) : Type 0 where

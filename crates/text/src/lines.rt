@@ -5,7 +5,7 @@ ghost use mathlib.Core.Bool.{false, cond};
 ghost use Prim.Native.Nat.{_+_, _*_, _≤_, _<_};
 ghost use lib.Dec.{ltb};
 ghost use lib.ListN.{length};
-ghost use Rattle.text.specs.Sheet.{plain as plainBy};
+ghost use Rattle.sheet_rules.specs.Sheet.{plain as plainBy};
 ghost use Rattle.text.specs.Steps.{Bounds, ReadsNumber, ReadsLine, ReadsLines};
 use words::decimal::Number;
 

@@ -2,7 +2,7 @@
 ghost use mathlib.Core.Path.{_≡_};
 ghost use Prim.Native.Nat.{_*_, _≤_, _<_};
 ghost use lib.ListN.{length};
-ghost use Rattle.text.specs.Sheet.{read, Reading};
+ghost use Rattle.sheet_rules.specs.Sheet.{read, Reading};
 ghost use Rattle.text.specs.Steps.{ReadsSection, laidOut};
 use crate::lines;
 

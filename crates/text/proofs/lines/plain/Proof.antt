@@ -1,7 +1,7 @@
 -- `text::lines::plain` meets its contract: the length is tested, then the first byte. Assumes nothing.
 use borrow.Author.Needs.{needs}
 use borrow.Author.Tests.{lt-ltb, le-ltb}
-use Rattle.text.specs.Sheet.{plain}
+use Rattle.sheet_rules.specs.Sheet.{plain}
 use Rattle.text.proofs.lines.plain.Statement.{statement}
 use Rattle.text.proofs.lines.plain.Tie as tie
 

@@ -3,7 +3,7 @@
 use mathlib.Core.Path.{refl, sym, ap, _∙_}
 use native.Mathlib.Omega.{arith}
 use borrow.Author.Needs.{needs}
-use Rattle.text.specs.Sheet.{skipLimits, messageLimits, fillLimits}
+use Rattle.sheet_rules.specs.Sheet.{skipLimits, messageLimits, fillLimits}
 use Rattle.text.specs.Steps.{laidOut}
 use Rattle.text.proofs.Sections.{read-long, read-skips, read-messages, read-fills, read-extra, read-all}
 use Rattle.text.proofs.sheet.parse.Statement.{statement}

@@ -4,7 +4,7 @@ use mathlib.Core.Bool.{cond}
 use mathlib.Core.List.{List, [], _∷_, _++_}
 use Prim.Native.Nat.{ℕ, _+_}
 use lib.Dec.{eqb}
-use Rattle.text.specs.Sheet.{Sheet, Fits, textOf}
+use Rattle.sheet_rules.specs.Sheet.{Sheet, Fits, textOf}
 
 -- how many line ends a text has
 unfoldable pub lineEnds : List ℕ → ℕ

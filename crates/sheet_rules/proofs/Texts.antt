@@ -10,8 +10,8 @@ use lib.ListN.{length}
 use borrow.Author.Tests.{le-ltb, ltb-false}
 use Rattle.numbers.proofs.Bytes.{byBool}
 use Rattle.words.specs.Digits.{isDigit, decimal}
-use Rattle.text.specs.Sheet.{Sheet, most, skipLimits, messageLimits, fillLimits, Within, AllWithin, Fits, stopBy, lineText, linesText, sectionText, textOf, Read, took, broken, after, numberAt, lineAt, linesAt, sectionAt, endAt, sheetAt, Reading, sheet, line, read}
-use Rattle.text.proofs.Numerals.{number-back, number-there}
+use Rattle.sheet_rules.specs.Sheet.{Sheet, most, skipLimits, messageLimits, fillLimits, Within, AllWithin, Fits, stopBy, lineText, linesText, sectionText, textOf, Read, took, broken, after, numberAt, lineAt, linesAt, sectionAt, endAt, sheetAt, Reading, sheet, line, read}
+use Rattle.sheet_rules.proofs.Numerals.{number-back, number-there}
 
 -- by what was read, with the equation in hand
 pub byRead : {A C : Type 0} (r : Read A) → ((x : A) (rest : List ℕ) → r ≡ took x rest → C) → ((n : ℕ) → r ≡ broken n → C) → C

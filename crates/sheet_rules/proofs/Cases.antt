@@ -4,7 +4,7 @@ use mathlib.Core.List.{[], _∷_}
 use Prim.Native.Nat.{ℕ}
 use Rattle.words.specs.Cut.{leading}
 use Rattle.words.specs.Digits.{valueFrom, allDigits, valueOf, isNumber}
-use Rattle.text.specs.Sheet.{skipLimits, messageLimits, fillLimits, stopBy, plain, isPlainNumber, numberAt, lineAt, linesAt, sectionAt, endAt, sheetAt, sheet, line, read}
+use Rattle.sheet_rules.specs.Sheet.{skipLimits, messageLimits, fillLimits, stopBy, plain, isPlainNumber, numberAt, lineAt, linesAt, sectionAt, endAt, sheetAt, sheet, line, read}
 
 -- one name that opens what the reading is made of
 unfoldable reading : ℕ

@@ -8,11 +8,11 @@ use lib.Dec.{ltb}
 use lib.ListN.{length, replicate, length-append, length-replicate}
 use borrow.Author.Tests.{le-ltb}
 use Rattle.words.specs.Digits.{decimal}
-use Rattle.text.specs.Sheet.{Sheet, most, skipLimits, messageLimits, fillLimits, Within, AllWithin, Fits, stopBy, lineText, linesText, sectionText, textOf, Read, took, broken, numberAt, lineAt, linesAt, sectionAt, endAt, sheetAt, sheet, line, read}
-use Rattle.text.specs.First.{lineEnds, Alike}
-use Rattle.text.proofs.Numerals.{number-back}
-use Rattle.text.proofs.Texts.{byRead, not-both, line-back, section-back}
-use Rattle.text.proofs.First.{same-line, number-line, line-line, end-line, ends-append, ends-line, ends-rows, ends-section, not-further}
+use Rattle.sheet_rules.specs.Sheet.{Sheet, most, skipLimits, messageLimits, fillLimits, Within, AllWithin, Fits, stopBy, lineText, linesText, sectionText, textOf, Read, took, broken, numberAt, lineAt, linesAt, sectionAt, endAt, sheetAt, sheet, line, read}
+use Rattle.sheet_rules.specs.First.{lineEnds, Alike}
+use Rattle.sheet_rules.proofs.Numerals.{number-back}
+use Rattle.sheet_rules.proofs.Texts.{byRead, not-both, line-back, section-back}
+use Rattle.sheet_rules.proofs.First.{same-line, number-line, line-line, end-line, ends-append, ends-line, ends-rows, ends-section, not-further}
 
 -- ---- rows of zeros, to make up what is missing
 

@@ -18,7 +18,7 @@ use Rattle.words.specs.declared.decimal.Number.the-variants.{Value, Nothing}
 use Rattle.words.proofs.Reading.{digit-bounds}
 use Rattle.words.proofs.Placing.{one-place, one-more, places-low}
 use Rattle.words.proofs.Back.{enough, all-digits, length-spelled, decimal-back}
-use Rattle.text.specs.Sheet.{Read, took, broken, plain, isPlainNumber, numberAt}
+use Rattle.sheet_rules.specs.Sheet.{Read, took, broken, plain, isPlainNumber, numberAt}
 
 -- ---- tests
 

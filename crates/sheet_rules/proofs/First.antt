@@ -13,10 +13,10 @@ use Rattle.numbers.proofs.Bytes.{byBool, clash}
 use Rattle.words.specs.Cut.{before}
 use Rattle.words.specs.Digits.{isDigit, allDigits, places, decimal}
 use Rattle.words.proofs.Back.{all-digits}
-use Rattle.text.specs.Sheet.{Sheet, most, skipLimits, messageLimits, fillLimits, Within, AllWithin, Fits, stopBy, lineText, linesText, sectionText, textOf, Read, took, broken, after, isPlainNumber, numberAt, lineAt, linesAt, sectionAt, endAt, sheetAt}
-use Rattle.text.specs.First.{lineEnds, Alike}
-use Rattle.text.proofs.Numerals.{digit-here, digit-rest, number-there}
-use Rattle.text.proofs.Texts.{byRead, not-both, Small, line-there, lines-back, section-there, small-skips, small-messages, small-fills, counted}
+use Rattle.sheet_rules.specs.Sheet.{Sheet, most, skipLimits, messageLimits, fillLimits, Within, AllWithin, Fits, stopBy, lineText, linesText, sectionText, textOf, Read, took, broken, after, isPlainNumber, numberAt, lineAt, linesAt, sectionAt, endAt, sheetAt}
+use Rattle.sheet_rules.specs.First.{lineEnds, Alike}
+use Rattle.sheet_rules.proofs.Numerals.{digit-here, digit-rest, number-there}
+use Rattle.sheet_rules.proofs.Texts.{byRead, not-both, Small, line-there, lines-back, section-there, small-skips, small-messages, small-fills, counted}
 
 -- ---- a broken line lies at the line where reading began, or behind it
 
