@@ -1,2 +1,1 @@
--- What the proofs of a join share.
-pub mod Joining
+-- No lemmas: the contract of the join on lent columns is all.

@@ -1,0 +1,2 @@
+-- What the contracts of merging cite.
+pub mod Merges
