@@ -1,5 +1,6 @@
--- What the loops of the entry keep: Tables (a table laid over a column, homes given out), Judging (two tables at once), Listing (the slots
--- listed below the height).
+-- What the loops of the entry keep: Tables (a table laid over a column, homes given out), Linking (the queues chained), Judging (two tables
+-- at once), Listing (the slots listed below the height).
 pub mod Tables
+pub mod Linking
 pub mod Judging
 pub mod Listing

@@ -114,10 +114,20 @@ abbrev pub classOf : Filter → (kind time : List ℕ) → ℕ → ℕ
 classOf f kind time i = cond (drops f (getD kind i 0) (getD time i 0)) 2 (getD kind i 0)
 
 unfoldable pub classesC : Filter → (kind time : List ℕ) → (n : ℕ) → List ℕ → List ℕ
-classesC f kind time n class = laidAt 0 (tabI n 0 (classOf f kind time)) class
+classesC f kind time n plan = laidAt 0 (tabI n 0 (classOf f kind time)) plan
 
 unfoldable pub ownersC : (owner : List ℕ) → (n : ℕ) → List ℕ → List ℕ
 ownersC owner n scratch = laidAt 0 (take n owner) scratch
+
+-- row i goes before the rows of its place that are chained: the first of them is its next, and it is the first
+abbrev pub linkRow : (owner : List ℕ) → (i : ℕ) → List ℕ → List ℕ
+linkRow owner i plan =
+    set (set plan (1024 + i) (getD plan (2048 + getD owner i 0) 0)) (2048 + getD owner i 0) i
+
+-- the rows below n are chained, the last of them first
+unfoldable pub linkC : (owner : List ℕ) → (n : ℕ) → List ℕ → List ℕ
+linkC owner zero plan = plan
+linkC owner (suc n) plan = linkC owner n (linkRow owner n plan)
 
 -- ---- the slots listed
 

@@ -8,7 +8,7 @@ use Rattle.rules.specs.World.{isNil}
 use Rattle.columns.proofs.Tabs.{length-tab}
 use Rattle.meaning.specs.Meaning.{Agrees}
 use Rattle.meaning.specs.Begins.{Sizes, Begins}
-use Rattle.entry_rules.specs.Calling.{Call, GoodCall, Lent, GoodLent, members, ext, time, argsNum, setNum, entryList, fixed, setting, bufferNum, groupNum, ownerMade, classMade, memberMade, homeMade, markMade, costMade}
+use Rattle.entry_rules.specs.Calling.{Call, GoodCall, Lent, GoodLent, members, ext, time, argsNum, setNum, entryList, fixed, setting, bufferNum, groupNum, ownerMade, planMade, memberMade, homeMade, markMade, costMade}
 use Rattle.entry_rules.proofs.Facts.{few-rows, few-places, few-members, few-slots, entry-list, list-filled, numbered, slots-small, slots-low}
 use Rattle.entry_rules.proofs.Parties.{member-long, member-small, member-once, home-long, home-housed, home-lodged, mark-long, cost-long}
 use Rattle.entry_rules.proofs.Says.{inset, says, costs}
@@ -60,7 +60,7 @@ module _ (v : Call) (good : GoodCall v) (l : Lent) (lent : GoodLent (v .said .co
     says = says v good l lent;
   }
 
-  pub entry-agrees : Agrees (ext v) (time v) (argsNum v) (classMade v l) (costMade v l) (fixed v)
+  pub entry-agrees : Agrees (ext v) (time v) (argsNum v) (planMade v l) (costMade v l) (fixed v)
   entry-agrees = record {
     drops = class-drops v good l lent;
     kinds = class-kinds v good l lent;

@@ -1,4 +1,4 @@
--- The classes and the owners of the rows: what the columns say of the messages. Assumes nothing.
+-- The classes and the owners of the rows: what the columns say of the messages; and the chains of their queues. Assumes nothing.
 use mathlib.Core.Path.{_≡_, refl, sym, ap, _∙_}
 use mathlib.Core.Bool.{Bool, true, false, cond, not, _&&_}
 use mathlib.Core.List.{List, []}
@@ -17,10 +17,12 @@ use Rattle.message.specs.declared.Filter.{Filter}
 use Rattle.message.specs.declared.Filter.the-variants.{Off, Below}
 use Rattle.message.specs.Records.{drops}
 use Rattle.message.specs.Real.{filterOf}
+use Rattle.moves.specs.Linked.{Linked}
 use Rattle.entry.specs.Entry.{classOf, classesC, ownersC}
-use Rattle.entry_rules.specs.Calling.{Call, GoodCall, Lent, GoodLent, rows, messageOf, ext, time, World′, argsNum, ownerMade, classMade}
-use Rattle.entry_rules.proofs.Tabs.{laid-long, front-cell}
-use Rattle.entry_rules.proofs.Facts.{few-rows, buffer-message}
+use Rattle.entry_rules.specs.Calling.{Call, GoodCall, Lent, GoodLent, rows, messageOf, ext, time, World′, argsNum, ownerMade, classMade, planMade}
+use Rattle.entry_rules.proofs.Tabs.{laid-long, laid-behind, front-cell}
+use Rattle.entry_rules.proofs.Facts.{few-rows, few-places, buffer-message}
+use Rattle.entry_rules.proofs.Links.{link-class, unlinked, all-linked, chained}
 
 -- ---- a kind of 0 or 1
 class-two : (f : Filter) (k t : ℕ) → k ≤ 1 → drops f k t ≡ eqb (cond (drops f k t) 2 k) 2
@@ -50,6 +52,9 @@ module _ (owner scratch : List ℕ) (n : ℕ) (enough : n ≤ length owner) (fit
       ap (λ (k : ℕ). getD (laidAt 0 (take n owner) scratch) k 0) (sym (zero-add i))
       ∙ getD-laid-in 0 (take n owner) scratch (omega (arith, whole)) i 0 (omega (arith, whole)) ∙ getD-take n owner i 0 l
 
+pub owner-place : (v : Call) → GoodCall v → (i : ℕ) → i < rows v → getD (v .buffer .owner) i 0 < 256
+owner-place v good i h = omega (arith, good .buffer .now .placed i h, few-places v good)
+
 module _ (v : Call) (good : GoodCall v) (l : Lent) (lent : GoodLent (v .said .cost) l) where
   kind-one : (i : ℕ) → i < rows v → getD (v .buffer .kind) i 0 ≤ 1
   kind-one i h = good .buffer .now .kinds i h
@@ -63,25 +68,34 @@ module _ (v : Call) (good : GoodCall v) (l : Lent) (lent : GoodLent (v .said .co
       by Off = refl
       by (Below threshold) = refl
 
-  class-cell : (i : ℕ) → i < rows v → getD (classMade v l) i 0 ≡ classOf (v .filter) (v .buffer .kind) (v .buffer .time) i
+  class-cell : (i : ℕ) → i < rows v → getD (planMade v l) i 0 ≡ classOf (v .filter) (v .buffer .kind) (v .buffer .time) i
   unfolding classesC
   class-cell i h =
-      front-cell (classOf (v .filter) (v .buffer .kind) (v .buffer .time)) (rows v) (l .class) (omega (arith, few-rows v good, lent .class)) i h
+      link-class (v .buffer .owner) (rows v) (classMade v l) i (omega (arith, few-rows v good))
+      ∙ front-cell (classOf (v .filter) (v .buffer .kind) (v .buffer .time)) (rows v) (l .plan) (omega (arith, few-rows v good, lent .plan)) i h
 
-  pub class-drops : (i : ℕ) → i < rows v → droppable (World′ v) (argsNum v .filter) i ≡ eqb (getD (classMade v l) i 0) 2
+  pub class-drops : (i : ℕ) → i < rows v → droppable (World′ v) (argsNum v .filter) i ≡ eqb (getD (planMade v l) i 0) 2
   class-drops i h =
       row-drops i h ∙ class-two (v .filter) (getD (v .buffer .kind) i 0) (getD (v .buffer .time) i 0) (kind-one i h)
       ∙ ap (λ (c : ℕ). eqb c 2) (sym (class-cell i h))
 
-  pub class-kinds : (i : ℕ) → i < rows v → ext v i ≡ not (eqb (getD (classMade v l) i 0) 0)
+  pub class-kinds : (i : ℕ) → i < rows v → ext v i ≡ not (eqb (getD (planMade v l) i 0) 0)
   class-kinds i h =
       ap (λ m. eqb (m .kind) 1) (buffer-message v good i h)
       ∙ class-kind (v .filter) (getD (v .buffer .kind) i 0) (getD (v .buffer .time) i 0) (kind-one i h)
       ∙ ap (λ (c : ℕ). not (eqb c 0)) (sym (class-cell i h))
 
-  pub class-long : length (classMade v l) ≡ 1024
+  -- ---- the chains
+  class-long : length (classMade v l) ≡ 2304
   unfolding classesC
-  class-long = laid-long (classOf (v .filter) (v .buffer .kind) (v .buffer .time)) 0 (rows v) (l .class) (omega (arith, few-rows v good, lent .class)) ∙ lent .class
+  class-long =
+      laid-long (classOf (v .filter) (v .buffer .kind) (v .buffer .time)) 0 (rows v) (l .plan) (omega (arith, few-rows v good, lent .plan)) ∙ lent .plan
+
+  -- no place has a first row yet
+  class-firsts : (p : ℕ) → p < 256 → getD (classMade v l) (2048 + p) 0 ≡ 1024
+  unfolding classesC
+  class-firsts p h =
+      laid-behind (classOf (v .filter) (v .buffer .kind) (v .buffer .time)) 0 (rows v) (l .plan) (omega (arith, few-rows v good, lent .plan)) (2048 + p) (omega (arith, few-rows v good)) ∙ lent .firsts p h
 
   pub owner-long : length (ownerMade v l) ≡ 1024
   owner-long =
@@ -91,3 +105,9 @@ module _ (v : Call) (good : GoodCall v) (l : Lent) (lent : GoodLent (v .said .co
   pub owner-cell : (i : ℕ) → i < rows v → getD (ownerMade v l) i 0 ≡ getD (v .buffer .owner) i 0
   owner-cell i h =
       owners-cell (v .buffer .owner) (l .owner) (rows v) (omega (arith, few-rows v good, good .buffer .lengths .owner)) (omega (arith, few-rows v good, lent .owner)) i h
+
+  pub rows-linked : Linked (planMade v l) (rows v) (ownerMade v l)
+  rows-linked =
+      let start = unlinked (v .buffer .owner) (rows v) (few-rows v good) (classMade v l) class-long class-firsts in
+      let whole = all-linked (v .buffer .owner) (rows v) (few-rows v good) (owner-place v good) (rows v) (omega arith) start in
+      chained (v .buffer .owner) (rows v) (few-rows v good) (owner-place v good) whole (ownerMade v l) owner-cell

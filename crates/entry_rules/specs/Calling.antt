@@ -23,7 +23,7 @@ use Rattle.slots.specs.Good as slots
 use Rattle.moves.specs.declared.Fixed.{Fixed}
 use Rattle.moves.specs.Moves.{nowhere}
 use Rattle.meaning.specs.Meaning.{Numbers, Setting, orderRow, row, slotAt}
-use Rattle.entry.specs.Entry.{Sayings, Spoken, numberedC, housedC, orderMarks, orderCosts, groupMarks, groupCosts, classesC, ownersC}
+use Rattle.entry.specs.Entry.{Sayings, Spoken, numberedC, housedC, orderMarks, orderCosts, groupMarks, groupCosts, classesC, ownersC, linkC}
 use Rattle.entry_rules.specs.Naming.{numOf, accOf}
 
 pub record Call : Type 0 where
@@ -149,10 +149,11 @@ groupNum v home member = record {
 
 -- ---- the columns
 
--- what is lent to the entry: columns of their lengths; no party has a home or a mark yet, and each has the cost of an account without a row
+-- what is lent to the entry: columns of their lengths; no party has a home or a mark yet, each has the cost of an account without a row, and
+-- no place has a first row
 pub record Lent : Type 0 where
   pub owner : List ℕ
-  pub class : List ℕ
+  pub plan : List ℕ
   pub taken : List ℕ
   pub home : List ℕ
   pub member : List ℕ
@@ -162,7 +163,7 @@ pub record Lent : Type 0 where
 
 pub record GoodLent (cost : ℕ) (l : Lent) : Type 0 where
   pub owner : length (l .owner) ≡ 1024
-  pub class : length (l .class) ≡ 1024
+  pub plan : length (l .plan) ≡ 2304
   pub taken : length (l .taken) ≡ 1024
   pub home : length (l .home) ≡ 1280
   pub member : length (l .member) ≡ 1280
@@ -172,13 +173,17 @@ pub record GoodLent (cost : ℕ) (l : Lent) : Type 0 where
   pub homes : (p : ℕ) → p < 1280 → getD (l .home) p 0 ≡ nowhere
   pub marks : (p : ℕ) → p < 1280 → getD (l .mark) p 0 ≡ 0
   pub costs : (p : ℕ) → p < 1280 → getD (l .cost) p 0 ≡ cost
+  pub firsts : (p : ℕ) → p < 256 → getD (l .plan) (2048 + p) 0 ≡ 1024
 
 -- what it leaves
 abbrev pub ownerMade : Call → Lent → List ℕ
 ownerMade v l = ownersC (v .buffer .owner) (rows v) (l .owner)
 
 abbrev pub classMade : Call → Lent → List ℕ
-classMade v l = classesC (v .filter) (v .buffer .kind) (v .buffer .time) (rows v) (l .class)
+classMade v l = classesC (v .filter) (v .buffer .kind) (v .buffer .time) (rows v) (l .plan)
+
+abbrev pub planMade : Call → Lent → List ℕ
+planMade v l = linkC (v .buffer .owner) (rows v) (classMade v l)
 
 abbrev pub memberMade : Call → Lent → List ℕ
 memberMade v l = numberedC (v .buffer .accounts) (places v) (v .group .accounts) (members v) (l .member)

@@ -23,10 +23,11 @@ use Rattle.meaning.specs.Begins.{Begun}
 use Rattle.meaning.proofs.Begins.{begins}
 use Rattle.meaning.proofs.Runs.{run-means}
 use Rattle.numbered.specs.Begin.{Fit, worksW, beginW}
-use Rattle.entry_rules.specs.Calling.{Call, GoodCall, Lent, GoodLent, members, ext, time, World′, back, argsNum, setNum, fixed, setting, bufferNum, groupNum, ownerMade, classMade, memberMade, homeMade, markMade, costMade}
+use Rattle.entry_rules.specs.Calling.{Call, GoodCall, Lent, GoodLent, members, ext, time, World′, back, argsNum, setNum, fixed, setting, bufferNum, groupNum, ownerMade, planMade, memberMade, homeMade, markMade, costMade}
 use Rattle.entry_rules.proofs.Lents.{fresh-good}
 use Rattle.entry_rules.proofs.Facts.{few-rows, few-places, few-members, few-slots, buffer-message, group-message}
 use Rattle.entry_rules.proofs.Parties.{member-cell, member-small, party-acc, home-at}
+use Rattle.entry_rules.proofs.Classes.{owner-place, rows-linked}
 use Rattle.entry_rules.proofs.Renamed.{place-acc}
 use Rattle.entry_rules.proofs.Begins.{entry-sizes, entry-begins, entry-agrees}
 use Rattle.entry_rules.proofs.Slots.{opens-rule, last-rule, listed-is}
@@ -68,6 +69,7 @@ module _ (v : Call) (good : GoodCall v) where
       kind-long = good .buffer .lengths .kind;
       time-long = good .buffer .lengths .time;
       n-fits = few-rows v good;
+      owned = owner-place v good;
     };
     buckets-good = good .group .buckets;
     spoken = good .said;
@@ -112,41 +114,41 @@ module _ (v : Call) (good : GoodCall v) where
 
     module _ (room : count (v .group) 1 + opensOf v ≤ 64) (xs : List ℕ) where
       abbrev left : RanC
-      left = runC (classMade v l) (costMade v l) (fixed v) (opensOf v) xs (v .group .number) (count (v .group) 1) (count (v .group) 6) start
+      left = runC (planMade v l) (costMade v l) (fixed v) (opensOf v) xs (v .group .number) (count (v .group) 1) (count (v .group) 6) start
 
       ran : xs ≡ rules.listed (World′ v) (argsNum v) (index (v .group .buckets))
           → Ran (ext v) (time v) (argsNum v) (costMade v l) (fixed v) (setting v) (opensOf v) (bufferNum v (ownerMade v l))
           (groupNum v (homeMade v l) (memberMade v l)) (setNum v) left
       ran e =
-          run-means (ext v) (time v) (argsNum v) (classMade v l) (costMade v l) (fixed v) (entry-agrees v good l lent) (bufferNum v (ownerMade v l))
+          run-means (ext v) (time v) (argsNum v) (planMade v l) (costMade v l) (fixed v) (entry-agrees v good l lent) (bufferNum v (ownerMade v l))
           (groupNum v (homeMade v l) (memberMade v l)) (setNum v) (setting v) start begun (opensOf v) room xs
           (sym (opens-rule v (homeMade v l) (memberMade v l))) e
-          (ap (λ (n : ℕ). runC (classMade v l) (costMade v l) (fixed v) (opensOf v) xs (v .group .number) (count (v .group) 1) n start)
+          (ap (λ (n : ℕ). runC (planMade v l) (costMade v l) (fixed v) (opensOf v) xs (v .group .number) (count (v .group) 1) n start)
           (sym (last-rule v good)))
 
       traced : Traced (fixed v) start (left .now)
       traced =
-          run-traced (classMade v l) (costMade v l) (fixed v) (opensOf v) xs (v .group .number) (count (v .group) 1) (count (v .group) 6) start room start-good
+          run-traced (planMade v l) (costMade v l) (fixed v) (opensOf v) xs (v .group .number) (count (v .group) 1) (count (v .group) 6) start room start-good
           (start-traced (fixed v) start refl refl (entry-begins v good l lent .held))
 
       blank : BlankFrom (left .slots) (left .now) (left .number)
       blank =
-          run-blank (classMade v l) (costMade v l) (fixed v) (opensOf v) xs (v .group .number) (count (v .group) 1) (count (v .group) 6) start room
+          run-blank (planMade v l) (costMade v l) (fixed v) (opensOf v) xs (v .group .number) (count (v .group) 1) (count (v .group) 6) start room
           (good .group .lengths .number) start-good
           (record { number0 = good .group .blank .number; ints0 = good .group .blank .ints; exts0 = good .group .blank .exts })
 
       opens : OpensAtMost (opensOf v) (count (v .group) 1) (count (v .group) 6) (left .slots) (left .last) (left .number)
       opens =
-          run-slots (classMade v l) (costMade v l) (fixed v) (opensOf v) xs (v .group .number) (count (v .group) 1) (count (v .group) 6) start
+          run-slots (planMade v l) (costMade v l) (fixed v) (opensOf v) xs (v .group .number) (count (v .group) 1) (count (v .group) 6) start
           (good .group .lengths .number)
 
       numbers-stay : (j : ℕ) → j < count (v .group) 1 → getD (left .number) j 0 ≡ getD (v .group .number) j 0
       numbers-stay =
-          run-numbers (classMade v l) (costMade v l) (fixed v) (opensOf v) xs (v .group .number) (count (v .group) 1) (count (v .group) 6) start
+          run-numbers (planMade v l) (costMade v l) (fixed v) (opensOf v) xs (v .group .number) (count (v .group) 1) (count (v .group) 6) start
 
       numbers-new : (j : ℕ) → count (v .group) 1 ≤ j → j < left .slots → count (v .group) 6 < getD (left .number) j 0
       numbers-new =
-          run-new (classMade v l) (costMade v l) (fixed v) (opensOf v) xs (v .group .number) (count (v .group) 1) (count (v .group) 6) start room
+          run-new (planMade v l) (costMade v l) (fixed v) (opensOf v) xs (v .group .number) (count (v .group) 1) (count (v .group) 6) start room
           (good .group .lengths .number)
 
   -- ---- the slots listed, in a column of n cells
@@ -168,7 +170,7 @@ module _ (v : Call) (good : GoodCall v) where
 -- ---- the fresh columns
 
 fresh-lent : (v : Call) → GoodLent (v .said .cost) (lentOf v)
-fresh-lent v = fresh-good 1024 1280 (v .said .cost) refl refl
+fresh-lent v = fresh-good 1024 1280 2304 (v .said .cost) refl refl refl
 
 -- the slots have room, and the numbers fit 16 bits
 pub may-pass : (v : Call) → GoodCall v → count (v .group) 1 + opensOf v ≤ 64 → count (v .group) 6 + opensOf v ≤ 65535
@@ -177,7 +179,7 @@ unfolding beginW worksW
 may-pass v good room numbers = record {
   fits = fit v good;
   runs = record {
-    good = start-good v good (lentOf v) (fresh-lent v);
+    ready = record { good = start-good v good (lentOf v) (fresh-lent v); linked = rows-linked v good (lentOf v) (fresh-lent v) };
     number-long = good .group .lengths .number;
     slots-fit = room;
     numbers-fit = numbers;

@@ -30,7 +30,7 @@ pub known-of : (v : Call) → GoodCall v → GoodRows (v .said .k) (v .said .set
     → {x : RanC} → Passed v x → Known v (lentOf v) (startOf v) x (rowsOfKeys k)
 known-of v good set k ok p = record {
   good = good;
-  lent = fresh-good 1024 1280 (v .said .cost) refl refl;
+  lent = fresh-good 1024 1280 2304 (v .said .cost) refl refl refl;
   set = set;
   ok = ok;
   ran = p .ran;

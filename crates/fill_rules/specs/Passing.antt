@@ -63,7 +63,7 @@ ranOf v = passW (accountsOf v) (heldOf v) (slotsOf v) (v .said) (v .filter) (v .
 abbrev pub lentOf : Call → Lent
 lentOf v = record {
   owner = replicate 1024 0;
-  class = replicate 1024 0;
+  plan = replicate 2304 1024;
   taken = replicate 1024 0;
   home = replicate 1280 nowhere;
   member = replicate 1280 0;

@@ -1,8 +1,8 @@
--- Every routine leaves well-formed columns well formed: a check, passing over, a move, and the walks made of them, by induction. An account
--- of the group stays where it is. Assumes nothing.
+-- Every routine leaves well-formed columns well formed, and their queues chained: a check, passing over, a move, and the walks made of them,
+-- by induction. An account of the group stays where it is. Assumes nothing.
 use mathlib.Core.Path.{_≡_}
 use mathlib.Core.List.{List, [], _∷_}
-use mathlib.Core.Bool.{false, cond, not}
+use mathlib.Core.Bool.{Bool, true, false, cond, not}
 use Prim.Native.Nat.{ℕ, zero, suc, _+_, _-_, _<_, _≤_}
 use native.Mathlib.Omega.{arith}
 use lib.Dec.{eqb, leb}
@@ -13,9 +13,10 @@ use Rattle.moves.specs.declared.Fixed.{Fixed}
 use Rattle.moves.specs.Moves.{Store, store, Marks, marks, checkMarks, moveStore, tookStore, enterHomes, takeC, wantedOf, nowhere}
 use Rattle.moves.specs.Good.{GoodMarks}
 use Rattle.moves.proofs.Keeps.{check-good, pass-good, tally-good, move-good}
+use Rattle.moves.proofs.Chains.{pass-linked, move-linked}
 use Rattle.numbers.proofs.Bytes.{byBool}
 use Rattle.meaning.specs.Meaning.{Columns, marksOf, checkC, passC, moveC}
-use Rattle.meaning.specs.Walks.{Good, skipC, freeC, movesAt, heldC, fullC, tryC, meetC, seekC, reachC, ownC, visitC}
+use Rattle.meaning.specs.Walks.{Good, Ready, skipC, freeC, movesAt, heldC, fullC, tryC, meetC, seekC, reachC, ownC, visitC}
 
 module _ (cost : List ℕ) (p : ℕ) (m : Marks) where
   pub check-taken : checkMarks cost p m .tally .taken ≡ m .tally .taken
@@ -90,17 +91,27 @@ module _ {f : Fixed} {cost : List ℕ} {m : Columns} (g : Good f cost m) (class 
             (g .marks .joins);
       }
 
-module _ {f : Fixed} {cost : List ℕ} {m : Columns} (g : Good f cost m) (class : List ℕ) (j p : ℕ) (l : p < 1280) (h : j < 64) where
-  pub try-keeps : Good f cost (tryC class cost f j p m)
+module _ {f : Fixed} {class cost : List ℕ} {m : Columns} (g : Ready f class cost m) (p : ℕ) (l : p < 1280) where
+  check-ready : Ready f class cost (checkC cost p m)
+  check-ready = record { good = check-keeps (g .good) class p l; linked = g .linked }
+
+  pass-ready : Ready f class cost (passC class f p m)
+  pass-ready = record { good = pass-keeps (g .good) class p l; linked = pass-linked (g .linked) class p }
+
+  move-ready : (j : ℕ) → j < 64 → Ready f class cost (moveC class f p j m)
+  move-ready j h = record { good = move-keeps (g .good) class p l j h; linked = move-linked class f p j (m .store) (g .linked) }
+
+module _ {f : Fixed} {class cost : List ℕ} {m : Columns} (g : Ready f class cost m) (j p : ℕ) (l : p < 1280) (h : j < 64) where
+  pub try-keeps : Ready f class cost (tryC class cost f j p m)
   unfolding tryC
   try-keeps =
       byBool (skipC p m)
-      (λ e. rw e (pass-keeps (check-keeps g class p l) class p l))
-      (λ e. rw e (move-keeps (check-keeps g class p l) class p l j h))
+      (λ e. rw e (pass-ready (check-ready g p l) p l))
+      (λ e. rw e (move-ready (check-ready g p l) p l j h))
 
-  pub meet-keeps : Good f cost (meetC class cost f j p m)
+  pub meet-keeps : Ready f class cost (meetC class cost f j p m)
   unfolding meetC
-  meet-keeps = byBool (freeC p m) (λ e. rw e try-keeps) (λ e. rw e (pass-keeps g class p l))
+  meet-keeps = byBool (freeC p m) (λ e. rw e try-keeps) (λ e. rw e (pass-ready g p l))
 
 pub move-more : (class : List ℕ) (f : Fixed) (p j : ℕ) (s : Store) → s .tally .accounts ≤ moveStore class f p j s .tally .accounts
 unfolding moveStore tookStore enterHomes
@@ -122,19 +133,23 @@ try-more class cost f j p m =
     (λ h. rw h (omega (arith, e)))
     (λ h. rw h (omega (arith, e, move-more class f p j (checkC cost p m .store))))
 
-pub own-keeps : (class cost : List ℕ) (f : Fixed) (j : ℕ) → j < 64 → (r g : ℕ) (m : Columns) → Good f cost m → g + r ≤ m .store .tally .accounts
-    → Good f cost (ownC class cost f j r g m)
+-- what both branches have, a test that chooses between them has
+either : {A : Type 0} (P : A → Type 0) (b : Bool) {x y : A} → P x → P y → P (cond b x y)
+either P true h k = h
+either P false h k = k
+
+pub own-keeps : (class cost : List ℕ) (f : Fixed) (j : ℕ) → j < 64 → (r g : ℕ) (m : Columns) → Ready f class cost m → g + r ≤ m .store .tally .accounts
+    → Ready f class cost (ownC class cost f j r g m)
 unfolding ownC
 own-keeps class cost f j jl zero g m v h = v
 own-keeps class cost f j jl (suc r) g m v h =
     let p = getD (m .store .member) g 0 in
     let t = tryC class cost f j p m in
-    let k : Good f cost t = try-keeps v class j p (v .parties g (omega arith)) jl in
-    byBool (eqb (getD (m .store .home) p 0) j)
-    (λ e. rw e (byBool (cond (not (skipC p m)) (fullC (f .height) (heldC j t)) false)
-    (λ d. rw d k)
-    (λ d. rw d (own-keeps class cost f j jl r (g + 1) t k (omega (arith, try-more class cost f j p m))))))
-    (λ e. rw e (own-keeps class cost f j jl r (g + 1) m v (omega arith)))
+    let k : Ready f class cost t = try-keeps v j p (v .good .parties g (omega arith)) jl in
+    either (Ready f class cost) (eqb (getD (m .store .home) p 0) j)
+    (either (Ready f class cost) (cond (not (skipC p m)) (fullC (f .height) (heldC j t)) false) k
+    (own-keeps class cost f j jl r (g + 1) t k (omega (arith, try-more class cost f j p m))))
+    (own-keeps class cost f j jl r (g + 1) m v (omega arith))
 
 -- an account of the group stays where it is
 module _ (class cost : List ℕ) (f : Fixed) (j p : ℕ) where
@@ -160,29 +175,29 @@ module _ (class cost : List ℕ) (f : Fixed) (j p : ℕ) where
     try-party = byBool (skipC p m) (λ e. rw e) (λ e. rw e (move-party (checkC cost p m .store) h))
 
 module _ (class cost : List ℕ) (f : Fixed) (j : ℕ) (jl : j < 64) where
-  pub reach-keeps : (r i : ℕ) (m : Columns) → Good f cost m → ((k : ℕ) → k < r → i + k < 1280) → Good f cost (reachC class cost f j r i m .now)
+  pub reach-keeps : (r i : ℕ) (m : Columns) → Ready f class cost m → ((k : ℕ) → k < r → i + k < 1280) → Ready f class cost (reachC class cost f j r i m .now)
   unfolding reachC
   reach-keeps zero i m g h = g
   reach-keeps (suc r) i m g h =
-      let t = meet-keeps g class j i (omega (arith, h 0 (omega arith))) jl in
+      let t = meet-keeps g j i (omega (arith, h 0 (omega arith))) jl in
       byBool (cond (movesAt (m .store .home) (m .mark) i) (fullC (f .height) (heldC j (meetC class cost f j i m))) false)
       (λ e. rw e t)
       (λ e. rw e (reach-keeps r (i + 1) (meetC class cost f j i m) t (λ k l. omega (arith, h (suc k) (omega arith)))))
 
-  pub seek-keeps : (r i : ℕ) (m : Columns) → Good f cost m → ((k : ℕ) → k < r → i + k < 1280) → Good f cost (seekC class cost f j r i m .now)
+  pub seek-keeps : (r i : ℕ) (m : Columns) → Ready f class cost m → ((k : ℕ) → k < r → i + k < 1280) → Ready f class cost (seekC class cost f j r i m .now)
   unfolding seekC
   seek-keeps zero i m g h = g
   seek-keeps (suc r) i m g h =
-      let t = meet-keeps g class j i (omega (arith, h 0 (omega arith))) jl in
+      let t = meet-keeps g j i (omega (arith, h 0 (omega arith))) jl in
       byBool (eqb (heldC j (meetC class cost f j i m)) 0)
       (λ e. rw e (seek-keeps r (i + 1) (meetC class cost f j i m) t (λ k l. omega (arith, h (suc k) (omega arith)))))
       (λ e. rw e t)
 
-  pub visit-keeps : (i : ℕ) (m : Columns) → Good f cost m → Good f cost (visitC class cost f j i m .now)
+  pub visit-keeps : (i : ℕ) (m : Columns) → Ready f class cost m → Ready f class cost (visitC class cost f j i m .now)
   unfolding visitC
   visit-keeps i m g =
       let o = ownC class cost f j (m .store .tally .accounts) 0 m in
-      let k : Good f cost o = own-keeps class cost f j jl (m .store .tally .accounts) 0 m g (omega arith) in
+      let k : Ready f class cost o = own-keeps class cost f j jl (m .store .tally .accounts) 0 m g (omega arith) in
       byBool (fullC (f .height) (heldC j o))
       (λ e. rw e k)
-      (λ e. rw e (reach-keeps (f .places - i) i o k (λ x l. omega (arith, g .store .places-fit))))
+      (λ e. rw e (reach-keeps (f .places - i) i o k (λ x l. omega (arith, g .good .store .places-fit))))

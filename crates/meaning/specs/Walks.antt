@@ -8,6 +8,7 @@ use lib.ListN.{length, getD}
 use Rattle.moves.specs.declared.Fixed.{Fixed}
 use Rattle.moves.specs.Moves.{nowhere, heldAt}
 use Rattle.moves.specs.Good.{GoodMarks, GoodStore}
+use Rattle.moves.specs.Linked.{Linked}
 use Rattle.meaning.specs.Meaning.{Columns, marksOf, checkC, passC, moveC}
 
 -- well-formed columns
@@ -16,6 +17,11 @@ pub record Good (f : Fixed) (cost : List ℕ) (m : Columns) : Type 0 where
   pub marks : GoodMarks (marksOf m)
   pub cost-long : length cost ≡ 1280
   pub parties : (g : ℕ) → g < m .store .tally .accounts → getD (m .store .member) g 0 < 1280
+
+-- and a plan that chains their queues: what the routines need
+pub record Ready (f : Fixed) (plan cost : List ℕ) (m : Columns) : Type 0 where
+  pub good : Good f cost m
+  pub linked : Linked plan (f .rows) (m .store .owner)
 
 -- a mark that says skip
 abbrev pub saysSkip : ℕ → Bool

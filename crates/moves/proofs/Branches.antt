@@ -62,10 +62,10 @@ module _ (class : List ℕ) (f : Fixed) (p j : ℕ) (s : Store) where
   unfolding moveStore
   move-none l = simp (le-leb _ _ l)
 
-  module _ (l : p < f .places) (q h k : ℕ) (qe : q ≡ queuedC (f .rows) p (s .owner)) (he : h ≡ heldAt (s .ints) (s .exts) j)
-      (ke : k ≡ wantedC q (f .height) h) where
+  module _ (l : p < f .places) (h k : ℕ) (he : h ≡ heldAt (s .ints) (s .exts) j)
+      (ke : k ≡ wantedC (queuedC (f .rows) p (s .owner)) (f .height) h) where
     k-is : wantedOf f p j s ≡ k
-    k-is = sym (rw (qe, he) at ke)
+    k-is = sym (rw he at ke)
 
     pub move-stop : k ≡ 0 → (r : ℕ) → r ≡ sum (s .tally .ops) 1
         → store (s .owner) (s .taken) (s .home) (s .member) (s .ints) (s .exts) (tally (s .tally .joined) (s .tally .accounts) (s .tally .taken) r)

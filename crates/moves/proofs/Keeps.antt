@@ -12,7 +12,7 @@ use borrow.Author.Tests.{eq-eqb, ne-eqb, eqb-true, eqb-false, lt-ltb, le-ltb, le
 use Rattle.moves.specs.declared.Tally.{Tally}
 use Rattle.moves.specs.declared.Fixed.{Fixed}
 use Rattle.columns.specs.Lists.{mapI, countI}
-use Rattle.moves.specs.Moves.{Marks, checkMarks, gone, passCell, passOwners, takeC, Taking, Store, store, tookStore, enterHomes, moveStore, wantedOf, wantedC, heldAt, nowhere, tally, withTally}
+use Rattle.moves.specs.Moves.{Marks, checkMarks, gone, passCell, passOwners, takeC, Taking, Store, store, tookStore, Homes, enterHomes, withHomes, moveStore, wantedOf, wantedC, heldAt, nowhere, tally, withTally}
 use Rattle.moves.specs.Good.{GoodMarks, GoodStore, live, many}
 use Rattle.numbers.proofs.Bytes.{byBool}
 use Rattle.columns.specs.Laid.{laidAt}
@@ -139,6 +139,12 @@ module _ (p : ℕ) (class : List ℕ) where
       (λ e. let r = take-live l (suc k) m (i + 1) os in simp e (omega arith))
 
 -- ---- a move
+
+-- what each branch has where its test holds, the choice has
+chosen : {A : Type 0} (P : A → Type 0) (b : Bool) {x y : A} → (b ≡ true → P x) → (b ≡ false → P y) → P (cond b x y)
+chosen P true f g = f refl
+chosen P false f g = g refl
+
 module _ (class : List ℕ) (f : Fixed) (p j : ℕ) (s : Store) (l : p < 1280) (jl : j < 64) (g : GoodStore f s) where
   abbrev T : Taking
   T = takeC p class (wantedOf f p j s) (f .rows) 0 (s .owner)
@@ -191,19 +197,23 @@ module _ (class : List ℕ) (f : Fixed) (p j : ℕ) (s : Store) (l : p < 1280) (
         enters = c;
       }
 
+  abbrev left : Homes → Store
+  left h = withHomes s j T h
+
   pub move-good : GoodStore f (moveStore class f p j s)
   unfolding moveStore tookStore enterHomes
   move-good =
-      byBool (leb (f .places) p)
-      (λ e. rw e g)
-      (λ e. rw e (byBool (eqb (wantedOf f p j s) 0)
-      (λ z. rw z (tally-good f s _ g refl refl))
-      (λ z. let q : p < 256 = omega (arith, leb-false (f .places) p e, g .places-fit) in rw z (byBool (eqb (getD (s .home) p 0) nowhere)
-      (λ h. rw h (byBool (eqb (length (T .rows)) 0)
-      (λ w. rw w (made (s .home) (s .member) (s .tally .accounts) _ q (g .home-long) (g .member-long) (g .enters)))
+      chosen (GoodStore f) (leb (f .places) p)
+      (λ e. g)
+      (λ e. let q : p < 256 = omega (arith, leb-false (f .places) p e, g .places-fit) in
+      chosen (GoodStore f) (eqb (wantedOf f p j s) 0)
+      (λ z. tally-good f s _ g refl refl)
+      (λ z. chosen (λ h. GoodStore f (left h)) (eqb (getD (s .home) p 0) nowhere)
+      (λ h. chosen (λ h. GoodStore f (left h)) (eqb (length (T .rows)) 0)
+      (λ w. made (s .home) (s .member) (s .tally .accounts) _ q (g .home-long) (g .member-long) (g .enters))
       (λ w.
       let r = many-set (eqb nowhere) (s .home) p j (omega (arith, g .home-long)) (eq-eqb nowhere (getD (s .home) p 0)
       (sym (eqb-true (getD (s .home) p 0) nowhere h))) (ne-eqb nowhere j (λ x. omega arith)) in
-      rw w (made (set (s .home) p j) (set (s .member) (s .tally .accounts) p) (s .tally .accounts + 1) _ q (simp length-set (g .home-long))
-      (simp length-set (g .member-long)) (omega (arith, r, g .enters))))))
-      (λ h. rw h (made (s .home) (s .member) (s .tally .accounts) _ q (g .home-long) (g .member-long) (g .enters)))))))
+      made (set (s .home) p j) (set (s .member) (s .tally .accounts) p) (s .tally .accounts + 1) _ q (simp length-set (g .home-long))
+      (simp length-set (g .member-long)) (omega (arith, r, g .enters))))
+      (λ h. made (s .home) (s .member) (s .tally .accounts) _ q (g .home-long) (g .member-long) (g .enters))))

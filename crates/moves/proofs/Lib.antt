@@ -1,5 +1,7 @@
--- The laws behind the proofs of the routines, and what other crates cite: that a check, passing over and a move keep columns well formed.
+-- The laws behind the proofs of the routines, and what other crates cite: that a check, passing over and a move keep columns well formed and
+-- the queues chained.
 pub mod Counts
 pub mod Branches
+pub mod Chains
 pub mod Takes
 pub mod Keeps

@@ -1,6 +1,8 @@
 -- A check, passing over, a take and a move on columns: what each routine makes of what it is lent. An account is a number, its party; the
 -- parties below `places` are the accounts of the order, by their place. A message is a row. `Marks` is what a check changes, `Store` what a
--- move changes. A name that ends in C is that of a rule, on columns. Assumes nothing.
+-- move changes. `class` holds the class of each row in its first cells; the chains behind them (specs/Linked.antt) are read by no rule: a rule
+-- looks at every row, and the routine that goes along a chain leaves the same. A name that ends in C is that of a rule, on columns.
+-- Assumes nothing.
 use mathlib.Core.Path.{_≡_}
 use mathlib.Core.List.{List, [], _∷_}
 use mathlib.Core.Bool.{Bool, false, cond}

@@ -1,5 +1,5 @@
--- The column of the group's parties: it keeps its length, and each of its first cells holds a party. The columns of marks and costs keep
--- their lengths. Assumes nothing.
+-- The column of the group's parties: it keeps its length, and each of its first cells holds a party. The columns of marks and costs and the
+-- plan keep their lengths. Assumes nothing.
 use mathlib.Core.Path.{_≡_, sym, ap, subst, _∙_}
 use mathlib.Core.List.{List}
 use Prim.Native.Nat.{ℕ, _+_, _<_, _≤_}
@@ -14,7 +14,8 @@ use Rattle.columns.specs.Laid.{laidAt}
 use Rattle.columns.specs.Rows.{rowAt}
 use Rattle.columns.proofs.Tabs.{length-tab, getD-tab}
 use Rattle.columns.proofs.Laid.{length-laid, getD-laid-in}
-use Rattle.entry.specs.Entry.{Sayings, seatIn, partyOf, numberedC, markOf, costOf, orderMarks, orderCosts, Judges}
+use Rattle.message.specs.declared.Filter.{Filter}
+use Rattle.entry.specs.Entry.{Sayings, seatIn, partyOf, numberedC, markOf, costOf, orderMarks, orderCosts, classOf, classesC, Judges}
 use Rattle.numbered.specs.Begin.{Accounts, FitAccounts, memberW}
 
 -- a column as it is made
@@ -82,3 +83,17 @@ module _ (s : Sayings) (order : List ℕ) (places : ℕ) (l : places ≤ 256) {m
       ∙ length-laid 0 (tabI places 0 (λ (p : ℕ). costOf s (rowAt order p))) (fresh (s .cost))
       (omega (arith, length-tab places 0 (λ (p : ℕ). costOf s (rowAt order p)), length-fresh (s .cost)))
       ∙ length-fresh (s .cost)
+
+-- the plan with the classes
+length-blank : (x : ℕ) → length (replicate 2304 x) ≡ 2304
+length-blank x = length-replicate 2304 x
+
+classes-long : (f : Filter) (kind time : List ℕ) (n : ℕ) (plan : List ℕ) → n ≤ length plan → length (classesC f kind time n plan) ≡ length plan
+unfolding classesC
+classes-long f kind time n plan fits =
+    length-laid 0 (tabI n 0 (classOf f kind time)) plan (omega (arith, length-tab n 0 (classOf f kind time)))
+
+pub plan-long : (f : Filter) (kind time : List ℕ) (n : ℕ) → n ≤ 1024 → (q : List ℕ) → q ≡ classesC f kind time n (replicate 2304 1024)
+    → length q ≡ 2304
+plan-long f kind time n fits q e =
+    ap length e ∙ classes-long f kind time n (replicate 2304 1024) (omega (arith, length-blank 1024)) ∙ length-blank 1024

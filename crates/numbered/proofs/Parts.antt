@@ -5,7 +5,7 @@ use Prim.Native.Nat.{ℕ}
 use lib.ListN.{replicate}
 use Rattle.columns.specs.Laid.{laidAt}
 use Rattle.message.specs.declared.Filter.{Filter}
-use Rattle.entry.specs.Entry.{Sayings, Judges, Lists, housedC, orderMarks, orderCosts, groupMarks, groupCosts, classesC, ownersC}
+use Rattle.entry.specs.Entry.{Sayings, Judges, Lists, housedC, orderMarks, orderCosts, groupMarks, groupCosts, classesC, ownersC, linkC}
 use Rattle.numbered.specs.declared.Work.{Work}
 use Rattle.numbered.specs.declared.Homes.{Homes}
 use Rattle.numbered.specs.declared.Judged.{Judged}
@@ -18,13 +18,13 @@ homes m h = record { member = m; home = h }
 abbrev judged : (mark cost : List ℕ) → Judged
 judged m c = record { mark = m; cost = c }
 
-abbrev rows : (owner class : List ℕ) → Rows
-rows o c = record { owner = o; class = c }
+abbrev rows : (owner plan : List ℕ) → Rows
+rows o c = record { owner = o; plan = c }
 
 abbrev works : Homes → Judged → Rows → Slots → (listed : List ℕ) (count : ℕ) → Work
 works h j r b listed count = record {
   owner = r .owner;
-  class = r .class;
+  plan = r .plan;
   taken = replicate 1024 0;
   home = h .home;
   member = h .member;
@@ -52,9 +52,11 @@ module _ (s : Sayings) (order : List ℕ) (places : ℕ) (group : List ℕ) (mem
       ∙ ap (λ (x : List ℕ). judged (judgedBy s order places group members member .mark) x)
       (f .cost-is ∙ ap (groupCosts s group member members) (e .cost-is))
 
-pub rows-are : (f : Filter) (h : Held) (o c : List ℕ) → o ≡ ownersC (h .owner) (h .n) (replicate 1024 0)
-    → c ≡ classesC f (h .kind) (h .time) (h .n) (replicate 1024 0) → rows o c ≡ rowsW f h
-rows-are f h o c d e = ap (λ (x : List ℕ). rows x c) d ∙ ap (λ (x : List ℕ). rows (rowsW f h .owner) x) e
+pub rows-are : (f : Filter) (h : Held) (o c q : List ℕ) → o ≡ ownersC (h .owner) (h .n) (replicate 1024 0)
+    → c ≡ classesC f (h .kind) (h .time) (h .n) (replicate 2304 1024) → q ≡ linkC (h .owner) (h .n) c → rows o q ≡ rowsW f h
+rows-are f h o c q d e g =
+    ap (λ (x : List ℕ). rows x q) d
+    ∙ ap (λ (x : List ℕ). rows (rowsW f h .owner) x) (g ∙ ap (λ (x : List ℕ). linkC (h .owner) (h .n) x) e)
 
 pub works-are : (h : Homes) (j : Judged) (r : Rows) (b : Slots) (height : ℕ) (listed : List ℕ) (count : ℕ)
     → Lists (below b height) (replicate 1024 0) listed count → works h j r b listed count ≡ worksW h j r b height

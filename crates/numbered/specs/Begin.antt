@@ -2,13 +2,13 @@
 -- Assumes nothing.
 use mathlib.Core.Path.{_≡_}
 use mathlib.Core.List.{List}
-use Prim.Native.Nat.{ℕ, _*_, _≤_}
-use lib.ListN.{length, take, replicate}
+use Prim.Native.Nat.{ℕ, _*_, _≤_, _<_}
+use lib.ListN.{length, getD, take, replicate}
 use Rattle.rules.specs.World.{joined}
 use Rattle.columns.specs.Laid.{laidAt}
 use Rattle.message.specs.declared.Filter.{Filter}
 use Rattle.buckets.specs.Cells.{index, GoodBuckets}
-use Rattle.entry.specs.Entry.{Sayings, Spoken, numberedC, housedC, orderMarks, orderCosts, groupMarks, groupCosts, classesC, ownersC}
+use Rattle.entry.specs.Entry.{Sayings, Spoken, numberedC, housedC, orderMarks, orderCosts, groupMarks, groupCosts, classesC, ownersC, linkC}
 use Rattle.numbered.specs.declared.Work.{Work}
 use Rattle.numbered.specs.declared.Homes.{Homes}
 use Rattle.numbered.specs.declared.Judged.{Judged}
@@ -59,6 +59,7 @@ pub record FitRows (h : Held) : Type 0 where
   pub kind-long : length (h .kind) ≡ 2048
   pub time-long : length (h .time) ≡ 2048
   pub n-fits : h .n ≤ 1024
+  pub owned : (i : ℕ) → i < h .n → getD (h .owner) i 0 < 256
 
 pub record Fit (a : Accounts) (h : Held) (b : Slots) (s : Sayings) (height : ℕ) : Type 0 where
   pub accounts-fit : FitAccounts a
@@ -96,7 +97,7 @@ judgedBy s order places group members member = record {
 abbrev pub rowsW : Filter → Held → Rows
 rowsW f h = record {
   owner = ownersC (h .owner) (h .n) (replicate 1024 0);
-  class = classesC f (h .kind) (h .time) (h .n) (replicate 1024 0);
+  plan = linkC (h .owner) (h .n) (classesC f (h .kind) (h .time) (h .n) (replicate 2304 1024));
 }
 
 -- the slots that the buckets below the height list
@@ -107,7 +108,7 @@ below b height = joined (take height (index (b .buckets)))
 unfoldable pub worksW : Homes → Judged → Rows → Slots → (height : ℕ) → Work
 worksW h j r b height = record {
   owner = r .owner;
-  class = r .class;
+  plan = r .plan;
   taken = replicate 1024 0;
   home = h .home;
   member = h .member;

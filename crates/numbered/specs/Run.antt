@@ -6,7 +6,7 @@ use lib.ListN.{length, take}
 use Rattle.moves.specs.declared.Tally.{Tally}
 use Rattle.moves.specs.declared.Fixed.{Fixed}
 use Rattle.meaning.specs.Meaning.{Columns, columns}
-use Rattle.meaning.specs.Walks.{Good}
+use Rattle.meaning.specs.Walks.{Ready}
 use Rattle.meaning.specs.Passes.{RanC, ranC, runC}
 use Rattle.numbered.specs.declared.Work.{Work}
 use Rattle.numbered.specs.declared.Done.{Done}
@@ -17,7 +17,7 @@ columnsW w t = columns (w .owner) (w .taken) (w .home) (w .member) (w .ints) (w 
 
 -- `opens` slots more have room, and numbers
 pub record MayRun (w : Work) (f : Fixed) (opens slots last : ℕ) (t : Tally) : Type 0 where
-  pub good : Good f (w .cost) (columnsW w t)
+  pub ready : Ready f (w .plan) (w .cost) (columnsW w t)
   pub number-long : length (w .number) ≡ 64
   pub slots-fit : slots + opens ≤ 64
   pub numbers-fit : last + opens ≤ 65535
@@ -29,12 +29,12 @@ abbrev pub ranW : Done → RanC
 ranW d = ranC (columnsW (d .work) (d .tally)) (d .work .number) (d .slots) (d .last .0) (d .dropped)
 
 abbrev pub runW : Work → Fixed → (opens slots last : ℕ) → Tally → RanC
-runW w f opens slots last t = runC (w .class) (w .cost) f opens (take (w .count) (w .listed)) (w .number) slots last (columnsW w t)
+runW w f opens slots last t = runC (w .plan) (w .cost) f opens (take (w .count) (w .listed)) (w .number) slots last (columnsW w t)
 
 -- a run leaves the other columns as they are
 pub record Runs (w : Work) (f : Fixed) (opens slots last : ℕ) (t : Tally) (d : Done) : Type 0 where
   pub ran : ranW d ≡ runW w f opens slots last t
-  pub class-stays : d .work .class ≡ w .class
+  pub plan-stays : d .work .plan ≡ w .plan
   pub cost-stays : d .work .cost ≡ w .cost
   pub listed-stays : d .work .listed ≡ w .listed
   pub count-stays : d .work .count ≡ w .count

@@ -12,12 +12,12 @@ use moves::Fixed;
 use moves::Tally;
 use numbers::SlotId;
 
-// The owner and the class of each row of the buffer and the rows taken; the home of each party, the party of each account of the group;
-// how many messages of each kind a slot holds; mark and cost of each party, and the parties that joined the set; the slots' numbers by
-// position; the `count` slots that the index lists below the height.
+// The owner of each row of the buffer, the plan with the rows' classes and the chains of their queues, and the rows taken; the home of each
+// party, the party of each account of the group; how many messages of each kind a slot holds; mark and cost of each party, and the parties
+// that joined the set; the slots' numbers by position; the `count` slots that the index lists below the height.
 pub struct Work {
     pub owner: [u16; 1024],
-    pub class: [u8; 1024],
+    pub plan: [u16; 2304],
     pub taken: [u16; 1024],
     pub home: [u8; 1280],
     pub member: [u16; 1280],
@@ -43,10 +43,10 @@ pub struct Judged {
     pub cost: [u64; 1280],
 }
 
-// The buffer's rows.
+// The buffer's rows: their owners, and the plan.
 pub struct Rows {
     pub owner: [u16; 1024],
-    pub class: [u8; 1024],
+    pub plan: [u16; 2304],
 }
 
 // What a run leaves: the columns, the counts, how many slots there are, the last number given, and how many messages were dropped.
@@ -129,7 +129,8 @@ fn judge_all(
     Judged { mark, cost }
 }
 
-// The owner and the class of each of the buffer's n rows.
+// The owner of each of the buffer's n rows, and the plan with their classes and the chains of their queues. The number 1,024, which is no row,
+// ends a chain.
 fn rows_of(
     owner: &[u16; 2048],
     kind: &[u8; 2048],
@@ -142,12 +143,10 @@ fn rows_of(
 {
     let mut owned = [0u16; 1024];
     entry::own(owner, n, &mut owned);
-    let mut class = [0u8; 1024];
-    entry::classify(kind, time, filter, n, &mut class);
-    Rows {
-        owner: owned,
-        class,
-    }
+    let mut plan = [1024u16; 2304];
+    entry::classify(kind, time, filter, n, &mut plan);
+    entry::link(owner, n, &mut plan);
+    Rows { owner: owned, plan }
 }
 
 // Puts the columns together: those of the parties and of the rows, the slots as the group has them, the slots listed below the height, and
@@ -168,7 +167,7 @@ fn together(
     let mut listed = [0u16; 1024];
     let count = entry::list_below(buckets, height, &mut listed);
     let owner = r.owner;
-    let class = r.class;
+    let plan = r.plan;
     let home = h.home;
     let member = h.member;
     let mark = j.mark;
@@ -180,7 +179,7 @@ fn together(
     let joined = [0u16; 1280];
     Work {
         owner,
-        class,
+        plan,
         taken,
         home,
         member,
@@ -251,7 +250,7 @@ pub fn run(work: Work, fixed: Fixed, opens: usize, slots: usize, last: SlotId, t
     ensures { λ r. ⌜ Runs work fixed opens slots (last .0) tally r ⌝ }
 {
     let mut owner = work.owner;
-    let class = work.class;
+    let plan = work.plan;
     let mut taken = work.taken;
     let mut home = work.home;
     let mut member = work.member;
@@ -265,7 +264,7 @@ pub fn run(work: Work, fixed: Fixed, opens: usize, slots: usize, last: SlotId, t
     let count = work.count;
     let ran = passes::run(
         &mut owner,
-        &class,
+        &plan,
         &mut taken,
         &mut home,
         &mut member,
@@ -288,7 +287,7 @@ pub fn run(work: Work, fixed: Fixed, opens: usize, slots: usize, last: SlotId, t
     Done {
         work: Work {
             owner,
-            class,
+            plan,
             taken,
             home,
             member,

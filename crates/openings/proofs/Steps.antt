@@ -20,7 +20,7 @@ use Rattle.columns.specs.Lists.{mapI, countI}
 use Rattle.columns.proofs.Scans.{turns, length-mapI}
 use Rattle.numbers.proofs.Bytes.{byBool}
 use Rattle.meaning.specs.Meaning.{Columns, columnsOf, withOwner}
-use Rattle.meaning.specs.Walks.{Good, movesC, movesAt, heldC, fullC, WalkC, walk, meetC, seekC, visitC}
+use Rattle.meaning.specs.Walks.{Ready, movesC, movesAt, heldC, fullC, WalkC, walk, meetC, seekC, visitC}
 use Rattle.meaning.specs.Passes.{lineIn, waits, positionFrom, lapsedFrom, sweepCell, sweepOwners, leftC, PassedC, passedC, ranC, serveC, firstC, secondC, sweptC, restC, endC, runC}
 use Rattle.meaning.proofs.Kept.{meet-keeps, visit-keeps, seek-keeps}
 
@@ -45,7 +45,7 @@ pub line-none : (ls : List ℕ) (h t : ℕ) → t ≤ h → lineIn ls h t ≡ []
 line-none ls h t a = drop-of-length-le (take t ls) {i = h} (simp length-take (omega arith))
 
 pub record Line (class cost : List ℕ) (f : Fixed) (goal : WalkC) (ls : List ℕ) (h t i : ℕ) (m : Columns) : Type 0 where
-  pub good : Good f cost m
+  pub ready : Ready f class cost m
   pub same : serveC class cost f (lineIn ls h t) (f .places - i) i m ≡ goal
   pub long : length ls ≡ 320
   pub fits : t ≤ 64 + i
@@ -83,21 +83,21 @@ module _ {class cost : List ℕ} {f : Fixed} {goal : WalkC} {ls : List ℕ} {h t
     small = v .slots h in-line
 
     module _ {p : ℕ} (pe : p ≡ j) {x : Columns} (e : x ≡ meetC class cost f p i m) where
-      pub next-good : Good f cost x
-      next-good = rw (e, pe) (meet-keeps (v .good) class j i (omega (arith, in-places, v .good .store .places-fit)) small)
+      pub next-ready : Ready f class cost x
+      next-ready = rw (e, pe) (meet-keeps (v .ready) j i (omega (arith, in-places, v .ready .good .store .places-fit)) small)
 
       next : serveC class cost f (cond (movesC i m) (cond (fullC (f .height) (heldC p x)) (lineIn ls (h + 1) t) (lineIn ls (h + 1) t ++ (p ∷ [])))
           (lineIn ls h t)) (f .places - (i + 1)) (i + 1) x ≡ goal
       unfolding serveC
       next =
-          let l = line-front ls h t in-line (omega (arith, v .long, v .fits, in-places, v .good .store .places-fit)) in
+          let l = line-front ls h t in-line (omega (arith, v .long, v .fits, in-places, v .ready .good .store .places-fit)) in
           rw (e, pe, l) (rw (l, turns (f .places) i in-places) at (v .same))
 
       module _ {c : Bool} (ce : c ≡ movesAt (m .store .home) (m .mark) i) where
         -- the account was passed over: the slot waits on
         pub serve-stays : c ≡ false → Line class cost f goal ls h t (i + 1) x
         serve-stays z = record {
-          good = next-good;
+          ready = next-ready;
           same = rw (sym ce ∙ z) at next;
           long = v .long;
           fits = omega
@@ -108,7 +108,7 @@ module _ {class cost : List ℕ} {f : Fixed} {goal : WalkC} {ls : List ℕ} {h t
 
         pub serve-full : c ≡ true → {y : Bool} → y ≡ fullC (f .height) (heldC p x) → y ≡ true → Line class cost f goal ls (h + 1) t (i + 1) x
         serve-full z a d = record {
-          good = next-good;
+          ready = next-ready;
           same = rw (sym ce ∙ z, sym a ∙ d) at next;
           long = v .long;
           fits = omega
@@ -120,9 +120,9 @@ module _ {class cost : List ℕ} {f : Fixed} {goal : WalkC} {ls : List ℕ} {h t
         pub serve-back : c ≡ true → {y : Bool} → y ≡ fullC (f .height) (heldC p x) → y ≡ false
             → Line class cost f goal (set ls t p) (h + 1) (t + 1) (i + 1) x
         serve-back z a d =
-            let b : t < length ls = omega (arith, v .long, v .fits, in-places, v .good .store .places-fit) in
+            let b : t < length ls = omega (arith, v .long, v .fits, in-places, v .ready .good .store .places-fit) in
             record {
-              good = next-good;
+              ready = next-ready;
               same = rw (line-push ls (h + 1) t p (omega (arith, in-line)) b) (rw (sym ce ∙ z, sym a ∙ d) at next);
               long = simp length-set (v .long);
               fits = omega (arith, v .fits);
@@ -135,7 +135,7 @@ module _ {class cost : List ℕ} {f : Fixed} {goal : WalkC} {ls : List ℕ} {h t
 -- ---- the first pass
 pub record First (class cost : List ℕ) (f : Fixed) (goal : PassedC) (ls : List ℕ) (tail k : ℕ) (numbers : List ℕ) (sl la i : ℕ)
     (m : Columns) : Type 0 where
-  pub good : Good f cost m
+  pub ready : Ready f class cost m
   pub same : firstC class cost f k (lineIn ls 0 tail) numbers sl la i m ≡ goal
   pub long : length ls ≡ 320
   pub wide : length numbers ≡ 64
@@ -154,9 +154,9 @@ module _ {class cost : List ℕ} {f : Fixed} {goal : PassedC} {ls : List ℕ} {t
     here : sl < 64
     here = omega (arith, v .room)
 
-    pub sought : Good f cost x
-    sought = rw (ap (λ (z : WalkC). z .now) e) (seek-keeps class cost f sl here (f .places - i) i m (v .good)
-        (λ y l. omega (arith, v .good .store .places-fit)))
+    pub sought : Ready f class cost x
+    sought = rw (ap (λ (z : WalkC). z .now) e) (seek-keeps class cost f sl here (f .places - i) i m (v .ready)
+        (λ y l. omega (arith, v .ready .good .store .places-fit)))
 
     abbrev ns′ : List ℕ
     ns′ = set numbers sl (la + 1)
@@ -182,7 +182,7 @@ module _ {class cost : List ℕ} {f : Fixed} {goal : PassedC} {ls : List ℕ} {t
 
         pub first-full : y ≡ true → First class cost f goal ls tail (k - 1) ns′ (sl + 1) (la + 1) i′ x
         first-full z = record {
-          good = sought;
+          ready = sought;
           same = rw (sym ye ∙ z) at first-on;
           long = v .long;
           wide = simp length-set (v .wide);
@@ -196,7 +196,7 @@ module _ {class cost : List ℕ} {f : Fixed} {goal : PassedC} {ls : List ℕ} {t
         first-waits z =
             let b : tail < length ls = omega (arith, v .long, v .fits, v .room) in
             record {
-              good = sought;
+              ready = sought;
               same = rw (line-push ls 0 tail sl (omega arith) b) (rw (sym ye ∙ z) at first-on);
               long = simp length-set (v .long);
               wide = simp length-set (v .wide);
@@ -225,29 +225,29 @@ below-turn : (x y : Bool) (j : ℕ) (line : List ℕ) → (j < 64) × Below line
 below-turn true y j line h = below-wait y j line (h .1) (h .0)
 below-turn false y j line h = h
 
-pub serve-keeps : (class cost : List ℕ) (f : Fixed) (r i : ℕ) (line : List ℕ) (m : Columns) → Good f cost m → ((k : ℕ) → k < r → i + k < 1280)
-    → Below line → Good f cost (serveC class cost f line r i m .now)
+pub serve-keeps : (class cost : List ℕ) (f : Fixed) (r i : ℕ) (line : List ℕ) (m : Columns) → Ready f class cost m → ((k : ℕ) → k < r → i + k < 1280)
+    → Below line → Ready f class cost (serveC class cost f line r i m .now)
 unfolding serveC
 serve-keeps class cost f zero i [] m g h l = g
 serve-keeps class cost f zero i (j ∷ line) m g h l = g
 serve-keeps class cost f (suc r) i [] m g h l = g
 serve-keeps class cost f (suc r) i (j ∷ line) m g h l =
-    serve-keeps class cost f r (i + 1) _ (meetC class cost f j i m) (meet-keeps g class j i (omega (arith, h 0 (omega arith))) (l .0))
+    serve-keeps class cost f r (i + 1) _ (meetC class cost f j i m) (meet-keeps g j i (omega (arith, h 0 (omega arith))) (l .0))
     (λ k q. omega (arith, h (suc k) (omega arith)))
     (below-turn (movesC i m) (fullC (f .height) (heldC j (meetC class cost f j i m))) j line l)
 
-pub first-keeps : (class cost : List ℕ) (f : Fixed) (k : ℕ) (line numbers : List ℕ) (sl la i : ℕ) (m : Columns) → Good f cost m → Below line → sl + k ≤ 64
-    → Good f cost (firstC class cost f k line numbers sl la i m .run .now) × (length (firstC class cost f k line numbers sl la i m .number)
+pub first-keeps : (class cost : List ℕ) (f : Fixed) (k : ℕ) (line numbers : List ℕ) (sl la i : ℕ) (m : Columns) → Ready f class cost m → Below line → sl + k ≤ 64
+    → Ready f class cost (firstC class cost f k line numbers sl la i m .run .now) × (length (firstC class cost f k line numbers sl la i m .number)
     ≡ length numbers)
 unfolding firstC
 first-keeps class cost f zero line numbers sl la i m g l h = (
   serve-keeps class cost f (f .places - i) i line m g
-      (λ k q. omega (arith, g .store .places-fit)) l,
+      (λ k q. omega (arith, g .good .store .places-fit)) l,
   refl,
 )
 first-keeps class cost f (suc k) line numbers sl la i m g l h =
     let w = seekC class cost f sl (f .places - i) i m in
-    let v : Good f cost (w .now) = seek-keeps class cost f sl (omega arith) (f .places - i) i m g (λ y q. omega (arith, g .store .places-fit)) in
+    let v : Ready f class cost (w .now) = seek-keeps class cost f sl (omega arith) (f .places - i) i m g (λ y q. omega (arith, g .good .store .places-fit)) in
     byBool (eqb (heldC sl (w .now)) 0)
     (λ e. rw e (v, simp length-set))
     (λ e. rw e (let z = first-keeps class cost f k _ (set numbers sl (la + 1)) (sl + 1) (la + 1) (w .at) (w .now) v

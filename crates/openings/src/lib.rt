@@ -4,7 +4,7 @@ ghost use mathlib.Core.List.{[]};
 ghost use Prim.Native.Nat.{ℕ, _+_, _-_, _<_, _≤_};
 ghost use lib.ListN.{length, getD, take};
 ghost use Rattle.meaning.specs.Meaning.{columns};
-ghost use Rattle.meaning.specs.Walks.{Good, walk};
+ghost use Rattle.meaning.specs.Walks.{Ready, walk};
 ghost use Rattle.meaning.specs.Passes.{lineIn, waits, positionFrom, passedC, ranC, serveC, firstC, secondC, runC};
 use moves::Fixed;
 use moves::Tally;
@@ -32,7 +32,7 @@ fn waiting(at: usize, places: usize, head: usize, back: usize) -> bool
 // Serves the waiting line, which stands in `line` up to `tail`, from its front: a slot that got an account and still has room joins it again.
 fn serve(
     owner: &mut [u16; 1024],
-    class: &[u8; 1024],
+    plan: &[u16; 2304],
     taken: &mut [u16; 1024],
     home: &mut [u8; 1280],
     member: &mut [u16; 1280],
@@ -47,10 +47,10 @@ fn serve(
     from: usize,
     tally: Tally,
 ) -> Walk
-    requires { ⌜ Good fixed (now cost) (columns (now owner) (now taken) (now home) (now member) (now ints) (now exts) (now mark) (now joined) tally) ⌝ }
+    requires { ⌜ Ready fixed (now plan) (now cost) (columns (now owner) (now taken) (now home) (now member) (now ints) (now exts) (now mark) (now joined) tally) ⌝ }
     requires { ⌜ (length (now line) ≡ 320) × (tail ≤ 64 + from) ⌝ }
     requires { ⌜ ((i : ℕ) → i < tail → getD (now line) i 0 < 64) ⌝ }
-    ensures { λ r. ⌜ walk (r .at) (columns (now (owner .exit)) (now (taken .exit)) (now (home .exit)) (now (member .exit)) (now (ints .exit)) (now (exts .exit)) (now (mark .exit)) (now (joined .exit)) (r .tally)) ≡ serveC (now (class .entry)) (now (cost .entry)) fixed (lineIn (now (line .entry)) 0 tail) (fixed .places - from) from (columns (now (owner .entry)) (now (taken .entry)) (now (home .entry)) (now (member .entry)) (now (ints .entry)) (now (exts .entry)) (now (mark .entry)) (now (joined .entry)) tally) ⌝ }
+    ensures { λ r. ⌜ walk (r .at) (columns (now (owner .exit)) (now (taken .exit)) (now (home .exit)) (now (member .exit)) (now (ints .exit)) (now (exts .exit)) (now (mark .exit)) (now (joined .exit)) (r .tally)) ≡ serveC (now (plan .entry)) (now (cost .entry)) fixed (lineIn (now (line .entry)) 0 tail) (fixed .places - from) from (columns (now (owner .entry)) (now (taken .entry)) (now (home .entry)) (now (member .entry)) (now (ints .entry)) (now (exts .entry)) (now (mark .entry)) (now (joined .entry)) tally) ⌝ }
 {
     let mut head: usize = 0;
     let mut back = tail;
@@ -61,7 +61,7 @@ fn serve(
         let moved = walks::moving(home, mark, at);
         now = walks::meet(
             owner,
-            class,
+            plan,
             taken,
             home,
             member,
@@ -91,7 +91,7 @@ fn serve(
 // one still empty at the end of the order is dropped. Then the line is served.
 pub fn first(
     owner: &mut [u16; 1024],
-    class: &[u8; 1024],
+    plan: &[u16; 2304],
     taken: &mut [u16; 1024],
     home: &mut [u8; 1280],
     member: &mut [u16; 1280],
@@ -107,9 +107,9 @@ pub fn first(
     last: SlotId,
     tally: Tally,
 ) -> Passed
-    requires { ⌜ Good fixed (now cost) (columns (now owner) (now taken) (now home) (now member) (now ints) (now exts) (now mark) (now joined) tally) ⌝ }
+    requires { ⌜ Ready fixed (now plan) (now cost) (columns (now owner) (now taken) (now home) (now member) (now ints) (now exts) (now mark) (now joined) tally) ⌝ }
     requires { ⌜ (length (now number) ≡ 64) × (slots + opens ≤ 64) × (last .0 + opens ≤ 65535) ⌝ }
-    ensures { λ z. ⌜ passedC (walk (z .at) (columns (now (owner .exit)) (now (taken .exit)) (now (home .exit)) (now (member .exit)) (now (ints .exit)) (now (exts .exit)) (now (mark .exit)) (now (joined .exit)) (z .tally))) (now (number .exit)) (z .slots) (z .last .0) ≡ firstC (now (class .entry)) (now (cost .entry)) fixed opens [] (now (number .entry)) slots (last .0) 0 (columns (now (owner .entry)) (now (taken .entry)) (now (home .entry)) (now (member .entry)) (now (ints .entry)) (now (exts .entry)) (now (mark .entry)) (now (joined .entry)) tally) ⌝ }
+    ensures { λ z. ⌜ passedC (walk (z .at) (columns (now (owner .exit)) (now (taken .exit)) (now (home .exit)) (now (member .exit)) (now (ints .exit)) (now (exts .exit)) (now (mark .exit)) (now (joined .exit)) (z .tally))) (now (number .exit)) (z .slots) (z .last .0) ≡ firstC (now (plan .entry)) (now (cost .entry)) fixed opens [] (now (number .entry)) slots (last .0) 0 (columns (now (owner .entry)) (now (taken .entry)) (now (home .entry)) (now (member .entry)) (now (ints .entry)) (now (exts .entry)) (now (mark .entry)) (now (joined .entry)) tally) ⌝ }
 {
     let mut line = [0u8; 320];
     let mut tail: usize = 0;
@@ -123,7 +123,7 @@ pub fn first(
         number[slot] = id as u16;
         let w = walks::seek(
             owner,
-            class,
+            plan,
             taken,
             home,
             member,
@@ -158,7 +158,7 @@ pub fn first(
     }
     let w = serve(
         owner,
-        class,
+        plan,
         taken,
         home,
         member,

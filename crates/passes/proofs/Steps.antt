@@ -20,7 +20,7 @@ use Rattle.columns.specs.Lists.{mapI, countI}
 use Rattle.columns.proofs.Scans.{turns, length-mapI}
 use Rattle.numbers.proofs.Bytes.{byBool}
 use Rattle.meaning.specs.Meaning.{Columns, columnsOf, withOwner}
-use Rattle.meaning.specs.Walks.{Good, movesC, movesAt, heldC, fullC, WalkC, walk, meetC, seekC, visitC}
+use Rattle.meaning.specs.Walks.{Ready, movesC, movesAt, heldC, fullC, WalkC, walk, meetC, seekC, visitC}
 use Rattle.meaning.specs.Passes.{lineIn, waits, positionFrom, lapsedFrom, sweepCell, sweepOwners, leftC, PassedC, passedC, ranC, serveC, firstC, secondC, sweptC, restC, endC, runC}
 use Rattle.meaning.proofs.Kept.{meet-keeps, visit-keeps, seek-keeps}
 use Rattle.openings.proofs.Steps.{line-front, line-none, first-keeps}
@@ -53,7 +53,7 @@ module _ (numbers : List ℕ) (n x : ℕ) where
 -- ---- the second pass
 pub record Second (class cost : List ℕ) (f : Fixed) (numbers : List ℕ) (e : ℕ) (goal : WalkC) (xs : List ℕ) (count k at : ℕ)
     (m : Columns) : Type 0 where
-  pub good : Good f cost m
+  pub ready : Ready f class cost m
   pub same : secondC class cost f numbers e (lineIn xs k count) at m ≡ goal
 
 module _ {class cost : List ℕ} {f : Fixed} {numbers : List ℕ} {e : ℕ} {goal : WalkC} {xs : List ℕ} {count k at : ℕ} {m : Columns}
@@ -69,17 +69,17 @@ module _ {class cost : List ℕ} {f : Fixed} {numbers : List ℕ} {e : ℕ} {goa
     turn = rw je (rw (line-front xs k count h l) at (v .same))
 
     pub second-past : (j < e → ⊥) → Second class cost f numbers e goal xs count (k + 1) at m
-    second-past n = record { good = v .good; same = rw (le-ltb j e (let q = lt-or-le j e in past n q)) at turn }
+    second-past n = record { ready = v .ready; same = rw (le-ltb j e (let q = lt-or-le j e in past n q)) at turn }
 
     pub second-visits : j < e → e ≤ 64 → {i : ℕ} {x : Columns} → walk i x ≡ visitC class cost f j at m
         → Second class cost f numbers e goal xs count (k + 1) i x
     second-visits n s {i} {x} w = record {
-      good = rw (ap (λ (z : WalkC). z .now) w) (visit-keeps class cost f j (omega arith) at m (v .good));
+      ready = rw (ap (λ (z : WalkC). z .now) w) (visit-keeps class cost f j (omega arith) at m (v .ready));
       same = ap (λ (z : WalkC). secondC class cost f numbers e (lineIn xs (k + 1) count) (z .at) (z .now)) w ∙ (rw (lt-ltb j e n) at turn);
     }
 
-second-keeps : (class cost : List ℕ) (f : Fixed) (numbers : List ℕ) (e : ℕ) → e ≤ 64 → (xs : List ℕ) (i : ℕ) (m : Columns) → Good f cost m
-    → Good f cost (secondC class cost f numbers e xs i m .now)
+second-keeps : (class cost : List ℕ) (f : Fixed) (numbers : List ℕ) (e : ℕ) → e ≤ 64 → (xs : List ℕ) (i : ℕ) (m : Columns) → Ready f class cost m
+    → Ready f class cost (secondC class cost f numbers e xs i m .now)
 unfolding secondC
 second-keeps class cost f numbers e l [] i m g = g
 second-keeps class cost f numbers e l (x ∷ xs) i m g =
@@ -89,16 +89,16 @@ second-keeps class cost f numbers e l (x ∷ xs) i m g =
     (visit-keeps class cost f j (omega (arith, ltb-true j e z)) i m g)))
     (λ z. rw z (second-keeps class cost f numbers e l xs i m g))
 
-module _ (class cost : List ℕ) (f : Fixed) (r : ℕ) (numbers : List ℕ) (sl la : ℕ) (m : Columns) (g : Good f cost m) (room : sl + r ≤ 64) {a : PassedC}
+module _ (class cost : List ℕ) (f : Fixed) (r : ℕ) (numbers : List ℕ) (sl la : ℕ) (m : Columns) (g : Ready f class cost m) (room : sl + r ≤ 64) {a : PassedC}
     (e : a ≡ firstC class cost f r [] numbers sl la 0 m) where
-  pub ran-good : Good f cost (a .run .now)
-  ran-good = rw e (first-keeps class cost f r [] numbers sl la 0 m g tt room .0)
+  pub ran-ready : Ready f class cost (a .run .now)
+  ran-ready = rw e (first-keeps class cost f r [] numbers sl la 0 m g tt room .0)
 
   pub ran-long : length (a .number) ≡ length numbers
   ran-long = rw e (first-keeps class cost f r [] numbers sl la 0 m g tt room .1)
 
-  pub ran-both : (xs : List ℕ) {w : WalkC} → w ≡ secondC class cost f (a .number) sl xs (a .run .at) (a .run .now) → Good f cost (w .now)
-  ran-both xs d = rw d (second-keeps class cost f (a .number) sl (omega arith) xs (a .run .at) (a .run .now) ran-good)
+  pub ran-both : (xs : List ℕ) {w : WalkC} → w ≡ secondC class cost f (a .number) sl xs (a .run .at) (a .run .now) → Ready f class cost (w .now)
+  ran-both xs d = rw d (second-keeps class cost f (a .number) sl (omega arith) xs (a .run .at) (a .run .now) ran-ready)
 
   pub ran : (xs : List ℕ) {w : WalkC} → w ≡ secondC class cost f (a .number) sl xs (a .run .at) (a .run .now)
       → {os : List ℕ} → os ≡ sweepOwners class (f .rows) (w .at) (f .places) (w .now .store .owner)
@@ -113,10 +113,10 @@ module _ (class cost : List ℕ) (f : Fixed) (r : ℕ) (numbers : List ℕ) (sl 
       ∙ ap (λ (x : PassedC). endC class cost f (restC class cost f sl xs x)) e)
 
 -- what is held after the sweep, and what was taken, are no more than the rows
-module _ (class : List ℕ) {cost : List ℕ} {f : Fixed} {m : Columns} (g : Good f cost m) where
+module _ (class : List ℕ) {cost : List ℕ} {f : Fixed} {m : Columns} (g : Ready f class cost m) where
   pub swept-long : (i : ℕ) {os : List ℕ} → os ≡ sweepOwners class (f .rows) i (f .places) (m .store .owner) → length os ≡ 1024
   unfolding sweepOwners
-  swept-long i e = ap length e ∙ length-mapI (sweepCell class i (f .places)) (f .rows) 0 (m .store .owner) ∙ g .store .owner-long
+  swept-long i e = ap length e ∙ length-mapI (sweepCell class i (f .places)) (f .rows) 0 (m .store .owner) ∙ g .good .store .owner-long
 
   left-live : (a i : ℕ) → a ≤ 256 → (n k : ℕ) (os : List ℕ)
       → countI (λ j o. ltb o a) n k (mapI (sweepCell class i a) n k os) ≤ countI live n k os
@@ -135,4 +135,4 @@ module _ (class : List ℕ) {cost : List ℕ} {f : Fixed} {m : Columns} (g : Goo
       → leftC (f .rows) (f .places) os + m .store .tally .taken ≤ f .rows
   unfolding sweepOwners leftC
   swept-left i e =
-      rw e (omega (arith, left-live (f .places) i (g .store .places-fit) (f .rows) 0 (m .store .owner), g .store .takes))
+      rw e (omega (arith, left-live (f .places) i (g .good .store .places-fit) (f .rows) 0 (m .store .owner), g .good .store .takes))

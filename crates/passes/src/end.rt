@@ -16,7 +16,7 @@ pub struct Ended {
 const GONE: u16 = 65535;
 
 // Whether a row of this owner and class is a droppable one of a place from `from` to below `to`.
-fn lapsed(owner: u16, class: u8, from: usize, to: usize) -> bool
+fn lapsed(owner: u16, class: u16, from: usize, to: usize) -> bool
     ensures { λ r. ⌜ r ≡ lapsedFrom from to owner class ⌝ }
 {
     if class == 2 {
@@ -29,13 +29,13 @@ fn lapsed(owner: u16, class: u8, from: usize, to: usize) -> bool
 }
 
 // The rest of the order, the places from `from` to below `to`, is passed over.
-pub fn sweep(owner: &mut [u16; 1024], class: &[u8; 1024], rows: usize, from: usize, to: usize)
+pub fn sweep(owner: &mut [u16; 1024], plan: &[u16; 2304], rows: usize, from: usize, to: usize)
     requires { ⌜ (rows ≤ 1024) × (length (now owner) ≡ 1024) ⌝ }
-    ensures { λ _. ⌜ now (owner .exit) ≡ sweepOwners (now (class .entry)) rows from to (now (owner .entry)) ⌝ }
+    ensures { λ _. ⌜ now (owner .exit) ≡ sweepOwners (now (plan .entry)) rows from to (now (owner .entry)) ⌝ }
 {
     let mut i: usize = 0;
     while i < rows {
-        if lapsed(owner[i], class[i], from, to) {
+        if lapsed(owner[i], plan[i], from, to) {
             owner[i] = GONE;
         }
         i += 1;

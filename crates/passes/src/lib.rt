@@ -6,7 +6,7 @@ ghost use mathlib.Core.List.{[]};
 ghost use Prim.Native.Nat.{ℕ, _+_, _-_, _<_, _≤_};
 ghost use lib.ListN.{length, getD, take};
 ghost use Rattle.meaning.specs.Meaning.{columns};
-ghost use Rattle.meaning.specs.Walks.{Good, walk};
+ghost use Rattle.meaning.specs.Walks.{Ready, walk};
 ghost use Rattle.meaning.specs.Passes.{lineIn, waits, positionFrom, passedC, ranC, serveC, firstC, secondC, runC};
 use moves::Fixed;
 use moves::Tally;
@@ -44,7 +44,7 @@ pub fn position_of(number: &[u16; 64], slots: usize, id: SlotId) -> usize
 // The second pass: a visit to each of the `count` slots listed that stood at entry, where there were `entry` slots.
 fn second(
     owner: &mut [u16; 1024],
-    class: &[u8; 1024],
+    plan: &[u16; 2304],
     taken: &mut [u16; 1024],
     home: &mut [u8; 1280],
     member: &mut [u16; 1280],
@@ -61,10 +61,10 @@ fn second(
     from: usize,
     tally: Tally,
 ) -> Walk
-    requires { ⌜ Good fixed (now cost) (columns (now owner) (now taken) (now home) (now member) (now ints) (now exts) (now mark) (now joined) tally) ⌝ }
+    requires { ⌜ Ready fixed (now plan) (now cost) (columns (now owner) (now taken) (now home) (now member) (now ints) (now exts) (now mark) (now joined) tally) ⌝ }
     requires { ⌜ (entry ≤ 64) × (count ≤ 1024) ⌝ }
     requires { ⌜ (length (now number) ≡ 64) × (length (now listed) ≡ 1024) ⌝ }
-    ensures { λ r. ⌜ walk (r .at) (columns (now (owner .exit)) (now (taken .exit)) (now (home .exit)) (now (member .exit)) (now (ints .exit)) (now (exts .exit)) (now (mark .exit)) (now (joined .exit)) (r .tally)) ≡ secondC (now (class .entry)) (now (cost .entry)) fixed (now (number .entry)) entry (take count (now (listed .entry))) from (columns (now (owner .entry)) (now (taken .entry)) (now (home .entry)) (now (member .entry)) (now (ints .entry)) (now (exts .entry)) (now (mark .entry)) (now (joined .entry)) tally) ⌝ }
+    ensures { λ r. ⌜ walk (r .at) (columns (now (owner .exit)) (now (taken .exit)) (now (home .exit)) (now (member .exit)) (now (ints .exit)) (now (exts .exit)) (now (mark .exit)) (now (joined .exit)) (r .tally)) ≡ secondC (now (plan .entry)) (now (cost .entry)) fixed (now (number .entry)) entry (take count (now (listed .entry))) from (columns (now (owner .entry)) (now (taken .entry)) (now (home .entry)) (now (member .entry)) (now (ints .entry)) (now (exts .entry)) (now (mark .entry)) (now (joined .entry)) tally) ⌝ }
 {
     let mut i: usize = 0;
     let mut at = from;
@@ -74,7 +74,7 @@ fn second(
         if slot < entry {
             let w = walks::visit(
                 owner,
-                class,
+                plan,
                 taken,
                 home,
                 member,
@@ -101,7 +101,7 @@ fn second(
 // A fill between its entry and the update of the index.
 pub fn run(
     owner: &mut [u16; 1024],
-    class: &[u8; 1024],
+    plan: &[u16; 2304],
     taken: &mut [u16; 1024],
     home: &mut [u8; 1280],
     member: &mut [u16; 1280],
@@ -119,14 +119,14 @@ pub fn run(
     last: SlotId,
     tally: Tally,
 ) -> Ran
-    requires { ⌜ Good fixed (now cost) (columns (now owner) (now taken) (now home) (now member) (now ints) (now exts) (now mark) (now joined) tally) ⌝ }
+    requires { ⌜ Ready fixed (now plan) (now cost) (columns (now owner) (now taken) (now home) (now member) (now ints) (now exts) (now mark) (now joined) tally) ⌝ }
     requires { ⌜ (length (now number) ≡ 64) × (slots + opens ≤ 64) × (last .0 + opens ≤ 65535) ⌝ }
     requires { ⌜ (count ≤ 1024) × (length (now listed) ≡ 1024) ⌝ }
-    ensures { λ z. ⌜ ranC (columns (now (owner .exit)) (now (taken .exit)) (now (home .exit)) (now (member .exit)) (now (ints .exit)) (now (exts .exit)) (now (mark .exit)) (now (joined .exit)) (z .tally)) (now (number .exit)) (z .slots) (z .last .0) (z .dropped) ≡ runC (now (class .entry)) (now (cost .entry)) fixed opens (take count (now (listed .entry))) (now (number .entry)) slots (last .0) (columns (now (owner .entry)) (now (taken .entry)) (now (home .entry)) (now (member .entry)) (now (ints .entry)) (now (exts .entry)) (now (mark .entry)) (now (joined .entry)) tally) ⌝ }
+    ensures { λ z. ⌜ ranC (columns (now (owner .exit)) (now (taken .exit)) (now (home .exit)) (now (member .exit)) (now (ints .exit)) (now (exts .exit)) (now (mark .exit)) (now (joined .exit)) (z .tally)) (now (number .exit)) (z .slots) (z .last .0) (z .dropped) ≡ runC (now (plan .entry)) (now (cost .entry)) fixed opens (take count (now (listed .entry))) (now (number .entry)) slots (last .0) (columns (now (owner .entry)) (now (taken .entry)) (now (home .entry)) (now (member .entry)) (now (ints .entry)) (now (exts .entry)) (now (mark .entry)) (now (joined .entry)) tally) ⌝ }
 {
     let a = openings::first(
         owner,
-        class,
+        plan,
         taken,
         home,
         member,
@@ -145,7 +145,7 @@ pub fn run(
     let opened = a.tally;
     let w = second(
         owner,
-        class,
+        plan,
         taken,
         home,
         member,
@@ -163,7 +163,7 @@ pub fn run(
         opened,
     );
     let visited = w.tally;
-    end::sweep(owner, class, fixed.rows, w.at, fixed.places);
+    end::sweep(owner, plan, fixed.rows, w.at, fixed.places);
     let e = end::finish(owner, fixed, visited);
     let counts = e.tally;
     let given = a.last;

@@ -2,7 +2,7 @@
 -- entry stay with their homes, and those that enter have a place. Here of a check, of passing over and of a move. Assumes nothing.
 use mathlib.Core.Path.{_≡_, refl, sym, ap, _∙_, subst}
 use mathlib.Core.Bool.{Bool, true, false, cond}
-use mathlib.Core.Logic.{_⊎_, inl, inr, ⊎-elim}
+use mathlib.Core.Logic.{_⊎_, inr, ⊎-elim}
 use mathlib.Core.List.{List, [], _∷_, _++_}
 use Prim.Native.Nat.{ℕ, zero, suc, _+_, _-_, _<_, _≤_}
 use native.Mathlib.Nat.{zero-add, sub-zero, le-refl}
@@ -20,6 +20,7 @@ use Rattle.moves.specs.declared.Fixed.{Fixed}
 use Rattle.moves.specs.Moves.{Store, store, checkMarks, passOwners, passCell, moveStore, tookStore, enterHomes, takeC, wantedOf, nowhere, gone}
 use Rattle.moves.specs.Good.{GoodStore}
 use Rattle.moves.proofs.Keeps.{move-good}
+use Rattle.moves.proofs.Chains.{take-cell, pass-cell}
 use Rattle.meaning.specs.Meaning.{Numbers, Columns, marksOf, checkC, passC, moveC}
 use Rattle.meaning.specs.Walks.{Good}
 use Rattle.meaning.proofs.Takes.{take-kept, take-marks}
@@ -29,31 +30,6 @@ use Rattle.settle_rules.specs.Facts.{Traced, TracedStore}
 
 abbrev Cell : (places o : ℕ) → Type 0
 Cell places o = (o < places) ⊎ (2048 ≤ o)
-
--- a take leaves a cell as it is, or marks it
-take-cell : (p : ℕ) (class : List ℕ) (k m i j : ℕ) (os : List ℕ) → (getD (takeC p class k m i os .owners) j 0 ≡ getD os j 0) ⊎ (2048 ≤ getD (takeC p class k m i os .owners) j 0)
-take-cell p class k zero i j os = inl refl
-take-cell p class zero (suc m) i j os = inl refl
-take-cell p class (suc k) (suc m) i j [] = inl refl
-take-cell p class (suc k) (suc m) i zero (o ∷ os) =
-    byBool (eqb o p)
-    (λ e. byBool (eqb (getD class i 0) 2) (λ d. rw (e, d) (inr (omega arith))) (λ d. rw (e, d) (inr (omega arith))))
-    (λ e. rw e (inl refl))
-take-cell p class (suc k) (suc m) i (suc j) (o ∷ os) =
-    byBool (eqb o p)
-    (λ e. byBool (eqb (getD class i 0) 2) (λ d. rw (e, d) (take-cell p class (suc k) m (i + 1) j os)) (λ d. rw (e, d) (take-cell p class k m (i + 1) j os)))
-    (λ e. rw e (take-cell p class (suc k) m (i + 1) j os))
-
--- passing over leaves a cell as it is, or marks it
-pass-cell : (class : List ℕ) (p m i j : ℕ) (os : List ℕ) → (getD (mapI (passCell class p) m i os) j 0 ≡ getD os j 0) ⊎ (2048 ≤ getD (mapI (passCell class p) m i os) j 0)
-unfolding mapI
-pass-cell class p zero i j os = inl refl
-pass-cell class p (suc m) i j [] = inl refl
-pass-cell class p (suc m) i zero (o ∷ os) =
-    byBool (eqb o p)
-    (λ e. byBool (eqb (getD class i 0) 2) (λ d. rw (e, d) (inr (omega arith))) (λ d. rw (e, d) (inl refl)))
-    (λ e. rw e (inl refl))
-pass-cell class p (suc m) i (suc j) (o ∷ os) = pass-cell class p m (i + 1) j os
 
 pass-same : (class : List ℕ) (p m i j : ℕ) (os : List ℕ) → (getD os j 0 ≡ p → ⊥) → getD (mapI (passCell class p) m i os) j 0 ≡ getD os j 0
 unfolding mapI

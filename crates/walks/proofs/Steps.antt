@@ -17,7 +17,7 @@ use Rattle.moves.proofs.Keeps.{tally-good}
 use Rattle.meaning.proofs.Kept.{check-taken, check-accounts, try-keeps, meet-keeps, try-more, own-keeps}
 use Rattle.columns.proofs.Scans.{turns}
 use Rattle.meaning.specs.Meaning.{Columns, columns, columnsOf, marksOf, withMarks, passC, moveC}
-use Rattle.meaning.specs.Walks.{Good, skipC, saysSkip, movesAt, heldC, fullC, WalkC, walk, tryC, meetC, seekC, reachC, ownC, visitC}
+use Rattle.meaning.specs.Walks.{Ready, skipC, saysSkip, movesAt, heldC, fullC, WalkC, walk, tryC, meetC, seekC, reachC, ownC, visitC}
 
 -- ---- the branches
 
@@ -34,10 +34,10 @@ module _ (class cost : List ℕ) (f : Fixed) (j p : ℕ) (m : Columns) where
   unfolding tryC
   try-move e {ks} {js} c o = rw (e, o) (ap (λ (x : Marks). moveC class f p j (withMarks m x)) c)
 
-  pub check-store : Good f cost m → {ks js : List ℕ} {u : Tally} → marks ks js u ≡ checkMarks cost p (marksOf m)
+  pub check-store : Ready f class cost m → {ks js : List ℕ} {u : Tally} → marks ks js u ≡ checkMarks cost p (marksOf m)
       → GoodStore f (withTally (m .store) u)
   check-store g {ks} {js} {u} c =
-      tally-good f (m .store) u (g .store) (ap (λ (x : Marks). x .tally .taken) c ∙ check-taken cost p (marksOf m))
+      tally-good f (m .store) u (g .good .store) (ap (λ (x : Marks). x .tally .taken) c ∙ check-taken cost p (marksOf m))
       (ap (λ (x : Marks). x .tally .accounts) c ∙ check-accounts cost p (marksOf m))
 
   pub meet-pass : (getD (m .store .home) p 0 ≡ nowhere → ⊥) → {os : List ℕ} → os ≡ passOwners class (f .rows) p (m .store .owner)
@@ -52,8 +52,8 @@ module _ (class cost : List ℕ) (f : Fixed) (j p : ℕ) (m : Columns) where
 
 -- ---- the loops: what is left to do makes of what stands now what the whole makes of the entry
 
-pub record Going {R : Type 0} (f : Fixed) (cost : List ℕ) (run : ℕ → Columns → R) (goal : R) (i : ℕ) (m : Columns) : Type 0 where
-  pub good : Good f cost m
+pub record Going {R : Type 0} (f : Fixed) (class cost : List ℕ) (run : ℕ → Columns → R) (goal : R) (i : ℕ) (m : Columns) : Type 0 where
+  pub ready : Ready f class cost m
   pub same : run i m ≡ goal
 
 module _ (class cost : List ℕ) (f : Fixed) (j : ℕ) where
@@ -67,7 +67,7 @@ module _ (class cost : List ℕ) (f : Fixed) (j : ℕ) where
   Own count g m = ownC class cost f j (count - g) g m
 
   module _ (jl : j < 64) {goal : WalkC} {i : ℕ} {m : Columns} where
-    module _ (v : Going f cost Seek goal i m) where
+    module _ (v : Going f class cost Seek goal i m) where
       pub seek-end : f .places ≤ i → walk i m ≡ goal
       unfolding seekC
       seek-end h = rw (sub-eq-zero-of-le h) at (v .same)
@@ -77,16 +77,16 @@ module _ (class cost : List ℕ) (f : Fixed) (j : ℕ) where
         unfolding seekC
         seek-next = rw e (rw (turns (f .places) i h) at (v .same))
 
-        pub next-good : Good f cost t
-        next-good = rw e (meet-keeps (v .good) class j i (omega (arith, v .good .store .places-fit)) jl)
+        pub next-ready : Ready f class cost t
+        next-ready = rw e (meet-keeps (v .ready) j i (omega (arith, v .ready .good .store .places-fit)) jl)
 
-        pub seek-on : {x : ℕ} → x ≡ heldC j t → x ≡ 0 → Going f cost Seek goal (i + 1) t
-        seek-on a b = record { good = next-good; same = rw (eq-eqb (heldC j t) 0 (sym a ∙ b)) at seek-next }
+        pub seek-on : {x : ℕ} → x ≡ heldC j t → x ≡ 0 → Going f class cost Seek goal (i + 1) t
+        seek-on a b = record { ready = next-ready; same = rw (eq-eqb (heldC j t) 0 (sym a ∙ b)) at seek-next }
 
         pub seek-stop : {x : ℕ} → x ≡ heldC j t → (x ≡ 0 → ⊥) → walk (i + 1) t ≡ goal
         seek-stop a b = rw (ne-eqb (heldC j t) 0 (λ z. b (a ∙ z))) at seek-next
 
-    module _ (v : Going f cost Reach goal i m) where
+    module _ (v : Going f class cost Reach goal i m) where
       pub reach-end : f .places ≤ i → walk i m ≡ goal
       unfolding reachC
       reach-end h = rw (sub-eq-zero-of-le h) at (v .same)
@@ -97,19 +97,19 @@ module _ (class cost : List ℕ) (f : Fixed) (j : ℕ) where
         unfolding reachC
         reach-next = rw e (rw (turns (f .places) i h) at (v .same))
 
-        pub reach-good : Good f cost t
-        reach-good = rw e (meet-keeps (v .good) class j i (omega (arith, v .good .store .places-fit)) jl)
+        pub reach-ready : Ready f class cost t
+        reach-ready = rw e (meet-keeps (v .ready) j i (omega (arith, v .ready .good .store .places-fit)) jl)
 
         pub reach-on : {x y : Bool} → x ≡ movesAt (m .store .home) (m .mark) i → y ≡ cond x (fullC (f .height) (heldC j t)) false → y ≡ false
-            → Going f cost Reach goal (i + 1) t
-        reach-on a b c = record { good = reach-good; same = rw (sym (rw a at b) ∙ c) at reach-next }
+            → Going f class cost Reach goal (i + 1) t
+        reach-on a b c = record { ready = reach-ready; same = rw (sym (rw a at b) ∙ c) at reach-next }
 
         pub reach-stop : {x y : Bool} → x ≡ movesAt (m .store .home) (m .mark) i → y ≡ cond x (fullC (f .height) (heldC j t)) false → y ≡ true
             → walk (i + 1) t ≡ goal
         reach-stop a b c = rw (sym (rw a at b) ∙ c) at reach-next
 
   -- the group's accounts are those at entry, or more
-  module _ (jl : j < 64) {goal : Columns} {count g : ℕ} {m : Columns} (v : Going f cost (Own count) goal g m)
+  module _ (jl : j < 64) {goal : Columns} {count g : ℕ} {m : Columns} (v : Going f class cost (Own count) goal g m)
       (more : count ≤ m .store .tally .accounts) where
     abbrev q : ℕ
     q = getD (m .store .member) g 0
@@ -125,11 +125,11 @@ module _ (class cost : List ℕ) (f : Fixed) (j : ℕ) where
       own-next = rw (turns count g h) at (v .same)
 
       pub own-small : q < 1280
-      own-small = v .good .parties g (omega arith)
+      own-small = v .ready .good .parties g (omega arith)
 
-      pub own-other : {p x : ℕ} → p ≡ q → x ≡ getD (m .store .home) p 0 → (x ≡ j → ⊥) → Going f cost (Own count) goal (g + 1) m
+      pub own-other : {p x : ℕ} → p ≡ q → x ≡ getD (m .store .home) p 0 → (x ≡ j → ⊥) → Going f class cost (Own count) goal (g + 1) m
       own-other a b c = record {
-        good = v .good;
+        ready = v .ready;
         same = rw (ne-eqb (getD (m .store .home) q 0) j
             (λ z. c (b ∙ ap (λ y. getD (m .store .home) y 0) a ∙ z))) at own-next;
       }
@@ -138,8 +138,8 @@ module _ (class cost : List ℕ) (f : Fixed) (j : ℕ) where
         e′ : t ≡ tryC class cost f j q m
         e′ = e ∙ ap (λ y. tryC class cost f j y m) a
 
-        pub own-good : Good f cost t
-        own-good = rw e′ (try-keeps (v .good) class j q own-small jl)
+        pub own-ready : Ready f class cost t
+        own-ready = rw e′ (try-keeps (v .ready) j q own-small jl)
 
         pub own-more : count ≤ t .store .tally .accounts
         own-more = rw e′ (omega (arith, try-more class cost f j q m))
@@ -151,15 +151,15 @@ module _ (class cost : List ℕ) (f : Fixed) (j : ℕ) where
           test : y ≡ cond (not (skipC q m)) (fullC (f .height) (heldC j t)) false
           test = rw (d, a) at w
 
-          pub own-on : y ≡ false → Going f cost (Own count) goal (g + 1) t
-          own-on z = record { good = own-good; same = rw (sym test ∙ z) at here }
+          pub own-on : y ≡ false → Going f class cost (Own count) goal (g + 1) t
+          own-on z = record { ready = own-ready; same = rw (sym test ∙ z) at here }
 
           pub own-stop : y ≡ true → t ≡ goal
           own-stop z = rw (sym test ∙ z) at here
 
 module _ (class cost : List ℕ) (f : Fixed) (j i : ℕ) (m : Columns) {t : Columns} (e : t ≡ ownC class cost f j (m .store .tally .accounts) 0 m) where
-  pub owned-good : j < 64 → Good f cost m → Good f cost t
-  owned-good jl g = rw e (own-keeps class cost f j jl (m .store .tally .accounts) 0 m g (omega arith))
+  pub owned-ready : j < 64 → Ready f class cost m → Ready f class cost t
+  owned-ready jl g = rw e (own-keeps class cost f j jl (m .store .tally .accounts) 0 m g (omega arith))
 
   pub visit-full : {x : Bool} → x ≡ fullC (f .height) (heldC j t) → x ≡ true → walk i t ≡ visitC class cost f j i m
   unfolding visitC

@@ -6,7 +6,7 @@ ghost use Prim.Native.Nat.{_-_, _<_};
 ghost use lib.ListN.{length};
 ghost use Rattle.moves.specs.Moves.{heldAt};
 ghost use Rattle.meaning.specs.Meaning.{columns};
-ghost use Rattle.meaning.specs.Walks.{Good, saysSkip, movesAt, fullC, walk, tryC, meetC, seekC, reachC, ownC, visitC};
+ghost use Rattle.meaning.specs.Walks.{Ready, saysSkip, movesAt, fullC, walk, tryC, meetC, seekC, reachC, ownC, visitC};
 use moves::Fixed;
 use moves::Tally;
 
@@ -65,7 +65,7 @@ pub fn moving(home: &[u8; 1280], mark: &[u8; 1280], party: usize) -> bool
 // A party is checked, then passed over or moved to the slot.
 fn attempt(
     owner: &mut [u16; 1024],
-    class: &[u8; 1024],
+    plan: &[u16; 2304],
     taken: &mut [u16; 1024],
     home: &mut [u8; 1280],
     member: &mut [u16; 1280],
@@ -79,19 +79,19 @@ fn attempt(
     slot: usize,
     tally: Tally,
 ) -> Tally
-    requires { ⌜ Good fixed (now cost) (columns (now owner) (now taken) (now home) (now member) (now ints) (now exts) (now mark) (now joined) tally) ⌝ }
+    requires { ⌜ Ready fixed (now plan) (now cost) (columns (now owner) (now taken) (now home) (now member) (now ints) (now exts) (now mark) (now joined) tally) ⌝ }
     requires { ⌜ (party < 1280) × (slot < 64) ⌝ }
-    ensures { λ r. ⌜ columns (now (owner .exit)) (now (taken .exit)) (now (home .exit)) (now (member .exit)) (now (ints .exit)) (now (exts .exit)) (now (mark .exit)) (now (joined .exit)) r ≡ tryC (now (class .entry)) (now (cost .entry)) fixed slot party (columns (now (owner .entry)) (now (taken .entry)) (now (home .entry)) (now (member .entry)) (now (ints .entry)) (now (exts .entry)) (now (mark .entry)) (now (joined .entry)) tally) ⌝ }
+    ensures { λ r. ⌜ columns (now (owner .exit)) (now (taken .exit)) (now (home .exit)) (now (member .exit)) (now (ints .exit)) (now (exts .exit)) (now (mark .exit)) (now (joined .exit)) r ≡ tryC (now (plan .entry)) (now (cost .entry)) fixed slot party (columns (now (owner .entry)) (now (taken .entry)) (now (home .entry)) (now (member .entry)) (now (ints .entry)) (now (exts .entry)) (now (mark .entry)) (now (joined .entry)) tally) ⌝ }
 {
     let skip = skips(mark[party]);
     let checked = moves::check(mark, cost, joined, party, tally);
     if skip {
-        moves::pass_over(owner, class, fixed.rows, party);
+        moves::pass_over(owner, plan, fixed.rows, party);
         return checked;
     }
     moves::move_to(
         owner,
-        class,
+        plan,
         taken,
         home,
         member,
@@ -107,7 +107,7 @@ fn attempt(
 // The walk meets an account: in the group, it is passed over without a check.
 pub fn meet(
     owner: &mut [u16; 1024],
-    class: &[u8; 1024],
+    plan: &[u16; 2304],
     taken: &mut [u16; 1024],
     home: &mut [u8; 1280],
     member: &mut [u16; 1280],
@@ -121,17 +121,17 @@ pub fn meet(
     slot: usize,
     tally: Tally,
 ) -> Tally
-    requires { ⌜ Good fixed (now cost) (columns (now owner) (now taken) (now home) (now member) (now ints) (now exts) (now mark) (now joined) tally) ⌝ }
+    requires { ⌜ Ready fixed (now plan) (now cost) (columns (now owner) (now taken) (now home) (now member) (now ints) (now exts) (now mark) (now joined) tally) ⌝ }
     requires { ⌜ (party < 1280) × (slot < 64) ⌝ }
-    ensures { λ r. ⌜ columns (now (owner .exit)) (now (taken .exit)) (now (home .exit)) (now (member .exit)) (now (ints .exit)) (now (exts .exit)) (now (mark .exit)) (now (joined .exit)) r ≡ meetC (now (class .entry)) (now (cost .entry)) fixed slot party (columns (now (owner .entry)) (now (taken .entry)) (now (home .entry)) (now (member .entry)) (now (ints .entry)) (now (exts .entry)) (now (mark .entry)) (now (joined .entry)) tally) ⌝ }
+    ensures { λ r. ⌜ columns (now (owner .exit)) (now (taken .exit)) (now (home .exit)) (now (member .exit)) (now (ints .exit)) (now (exts .exit)) (now (mark .exit)) (now (joined .exit)) r ≡ meetC (now (plan .entry)) (now (cost .entry)) fixed slot party (columns (now (owner .entry)) (now (taken .entry)) (now (home .entry)) (now (member .entry)) (now (ints .entry)) (now (exts .entry)) (now (mark .entry)) (now (joined .entry)) tally) ⌝ }
 {
     if home[party] != NOWHERE {
-        moves::pass_over(owner, class, fixed.rows, party);
+        moves::pass_over(owner, plan, fixed.rows, party);
         return tally;
     }
     attempt(
         owner,
-        class,
+        plan,
         taken,
         home,
         member,
@@ -152,7 +152,7 @@ pub fn meet(
 // The walk for a new slot, from a place on, until the slot holds a message.
 pub fn seek(
     owner: &mut [u16; 1024],
-    class: &[u8; 1024],
+    plan: &[u16; 2304],
     taken: &mut [u16; 1024],
     home: &mut [u8; 1280],
     member: &mut [u16; 1280],
@@ -166,16 +166,16 @@ pub fn seek(
     from: usize,
     tally: Tally,
 ) -> Walk
-    requires { ⌜ Good fixed (now cost) (columns (now owner) (now taken) (now home) (now member) (now ints) (now exts) (now mark) (now joined) tally) ⌝ }
+    requires { ⌜ Ready fixed (now plan) (now cost) (columns (now owner) (now taken) (now home) (now member) (now ints) (now exts) (now mark) (now joined) tally) ⌝ }
     requires { ⌜ slot < 64 ⌝ }
-    ensures { λ r. ⌜ walk (r .at) (columns (now (owner .exit)) (now (taken .exit)) (now (home .exit)) (now (member .exit)) (now (ints .exit)) (now (exts .exit)) (now (mark .exit)) (now (joined .exit)) (r .tally)) ≡ seekC (now (class .entry)) (now (cost .entry)) fixed slot (fixed .places - from) from (columns (now (owner .entry)) (now (taken .entry)) (now (home .entry)) (now (member .entry)) (now (ints .entry)) (now (exts .entry)) (now (mark .entry)) (now (joined .entry)) tally) ⌝ }
+    ensures { λ r. ⌜ walk (r .at) (columns (now (owner .exit)) (now (taken .exit)) (now (home .exit)) (now (member .exit)) (now (ints .exit)) (now (exts .exit)) (now (mark .exit)) (now (joined .exit)) (r .tally)) ≡ seekC (now (plan .entry)) (now (cost .entry)) fixed slot (fixed .places - from) from (columns (now (owner .entry)) (now (taken .entry)) (now (home .entry)) (now (member .entry)) (now (ints .entry)) (now (exts .entry)) (now (mark .entry)) (now (joined .entry)) tally) ⌝ }
 {
     let mut at = from;
     let mut now = tally;
     while at < fixed.places {
         now = meet(
             owner,
-            class,
+            plan,
             taken,
             home,
             member,
@@ -200,7 +200,7 @@ pub fn seek(
 // The slot's own accounts, as listed when the visit began, until it is full.
 fn own(
     owner: &mut [u16; 1024],
-    class: &[u8; 1024],
+    plan: &[u16; 2304],
     taken: &mut [u16; 1024],
     home: &mut [u8; 1280],
     member: &mut [u16; 1280],
@@ -213,9 +213,9 @@ fn own(
     slot: usize,
     tally: Tally,
 ) -> Tally
-    requires { ⌜ Good fixed (now cost) (columns (now owner) (now taken) (now home) (now member) (now ints) (now exts) (now mark) (now joined) tally) ⌝ }
+    requires { ⌜ Ready fixed (now plan) (now cost) (columns (now owner) (now taken) (now home) (now member) (now ints) (now exts) (now mark) (now joined) tally) ⌝ }
     requires { ⌜ slot < 64 ⌝ }
-    ensures { λ r. ⌜ columns (now (owner .exit)) (now (taken .exit)) (now (home .exit)) (now (member .exit)) (now (ints .exit)) (now (exts .exit)) (now (mark .exit)) (now (joined .exit)) r ≡ ownC (now (class .entry)) (now (cost .entry)) fixed slot (tally .accounts) 0 (columns (now (owner .entry)) (now (taken .entry)) (now (home .entry)) (now (member .entry)) (now (ints .entry)) (now (exts .entry)) (now (mark .entry)) (now (joined .entry)) tally) ⌝ }
+    ensures { λ r. ⌜ columns (now (owner .exit)) (now (taken .exit)) (now (home .exit)) (now (member .exit)) (now (ints .exit)) (now (exts .exit)) (now (mark .exit)) (now (joined .exit)) r ≡ ownC (now (plan .entry)) (now (cost .entry)) fixed slot (tally .accounts) 0 (columns (now (owner .entry)) (now (taken .entry)) (now (home .entry)) (now (member .entry)) (now (ints .entry)) (now (exts .entry)) (now (mark .entry)) (now (joined .entry)) tally) ⌝ }
 {
     let mut next: usize = 0;
     let mut now = tally;
@@ -226,7 +226,7 @@ fn own(
             let moved = !skips(mark[party]);
             now = attempt(
                 owner,
-                class,
+                plan,
                 taken,
                 home,
                 member,
@@ -252,7 +252,7 @@ fn own(
 // The account order goes on, from a place on, until the slot is full.
 fn reach(
     owner: &mut [u16; 1024],
-    class: &[u8; 1024],
+    plan: &[u16; 2304],
     taken: &mut [u16; 1024],
     home: &mut [u8; 1280],
     member: &mut [u16; 1280],
@@ -266,9 +266,9 @@ fn reach(
     from: usize,
     tally: Tally,
 ) -> Walk
-    requires { ⌜ Good fixed (now cost) (columns (now owner) (now taken) (now home) (now member) (now ints) (now exts) (now mark) (now joined) tally) ⌝ }
+    requires { ⌜ Ready fixed (now plan) (now cost) (columns (now owner) (now taken) (now home) (now member) (now ints) (now exts) (now mark) (now joined) tally) ⌝ }
     requires { ⌜ slot < 64 ⌝ }
-    ensures { λ r. ⌜ walk (r .at) (columns (now (owner .exit)) (now (taken .exit)) (now (home .exit)) (now (member .exit)) (now (ints .exit)) (now (exts .exit)) (now (mark .exit)) (now (joined .exit)) (r .tally)) ≡ reachC (now (class .entry)) (now (cost .entry)) fixed slot (fixed .places - from) from (columns (now (owner .entry)) (now (taken .entry)) (now (home .entry)) (now (member .entry)) (now (ints .entry)) (now (exts .entry)) (now (mark .entry)) (now (joined .entry)) tally) ⌝ }
+    ensures { λ r. ⌜ walk (r .at) (columns (now (owner .exit)) (now (taken .exit)) (now (home .exit)) (now (member .exit)) (now (ints .exit)) (now (exts .exit)) (now (mark .exit)) (now (joined .exit)) (r .tally)) ≡ reachC (now (plan .entry)) (now (cost .entry)) fixed slot (fixed .places - from) from (columns (now (owner .entry)) (now (taken .entry)) (now (home .entry)) (now (member .entry)) (now (ints .entry)) (now (exts .entry)) (now (mark .entry)) (now (joined .entry)) tally) ⌝ }
 {
     let mut at = from;
     let mut now = tally;
@@ -276,7 +276,7 @@ fn reach(
         let moved = moving(home, mark, at);
         now = meet(
             owner,
-            class,
+            plan,
             taken,
             home,
             member,
@@ -301,7 +301,7 @@ fn reach(
 // A visit of the second pass: the slot's own accounts first; then, if it has room, the account order goes on.
 pub fn visit(
     owner: &mut [u16; 1024],
-    class: &[u8; 1024],
+    plan: &[u16; 2304],
     taken: &mut [u16; 1024],
     home: &mut [u8; 1280],
     member: &mut [u16; 1280],
@@ -315,13 +315,13 @@ pub fn visit(
     from: usize,
     tally: Tally,
 ) -> Walk
-    requires { ⌜ Good fixed (now cost) (columns (now owner) (now taken) (now home) (now member) (now ints) (now exts) (now mark) (now joined) tally) ⌝ }
+    requires { ⌜ Ready fixed (now plan) (now cost) (columns (now owner) (now taken) (now home) (now member) (now ints) (now exts) (now mark) (now joined) tally) ⌝ }
     requires { ⌜ slot < 64 ⌝ }
-    ensures { λ r. ⌜ walk (r .at) (columns (now (owner .exit)) (now (taken .exit)) (now (home .exit)) (now (member .exit)) (now (ints .exit)) (now (exts .exit)) (now (mark .exit)) (now (joined .exit)) (r .tally)) ≡ visitC (now (class .entry)) (now (cost .entry)) fixed slot from (columns (now (owner .entry)) (now (taken .entry)) (now (home .entry)) (now (member .entry)) (now (ints .entry)) (now (exts .entry)) (now (mark .entry)) (now (joined .entry)) tally) ⌝ }
+    ensures { λ r. ⌜ walk (r .at) (columns (now (owner .exit)) (now (taken .exit)) (now (home .exit)) (now (member .exit)) (now (ints .exit)) (now (exts .exit)) (now (mark .exit)) (now (joined .exit)) (r .tally)) ≡ visitC (now (plan .entry)) (now (cost .entry)) fixed slot from (columns (now (owner .entry)) (now (taken .entry)) (now (home .entry)) (now (member .entry)) (now (ints .entry)) (now (exts .entry)) (now (mark .entry)) (now (joined .entry)) tally) ⌝ }
 {
     let now = own(
         owner,
-        class,
+        plan,
         taken,
         home,
         member,
@@ -342,7 +342,7 @@ pub fn visit(
     }
     reach(
         owner,
-        class,
+        plan,
         taken,
         home,
         member,

@@ -11,21 +11,21 @@ use Rattle.entry.proofs.classify.Statement.{statement}
 use Rattle.entry.proofs.classify.Tie as tie
 
 abbrev Inv-loop : tie.InvT-loop
-Inv-loop kind time filter n class₀ i₀ class i = Tabling (classOf filter kind time) 0 n class₀ class i
+Inv-loop kind time filter n plan₀ i₀ plan i = Tabling (classOf filter kind time) 0 n plan₀ plan i
 
 abbrev μ-loop : tie.MeasureT-loop
-μ-loop kind time filter n class₀ i₀ class i = n - i
+μ-loop kind time filter n plan₀ i₀ plan i = n - i
 
 loop-holds : tie.Need-loop-holds Inv-loop μ-loop
 loop-holds c = table-start _ _ _ _
 
 loop-again : tie.Need-loop-again Inv-loop μ-loop
 loop-again c =
-    let d = c .before .before .before .before .before in
+    let d = c .before .before .before .before .before .before in
     let s = d .before .before .before in
-    let e = c .before .droppable .ensures in
-    front-step (d .loop .inv) (omega (arith, s .pre .2, s .pre .3)) (c .before .before .before .before .loop-test .taken) _
-    (⊎-elim (λ w. w .1 ∙ rw (sym e ∙ w .0 .taken)) (λ w. w .1 ∙ rw (sym e ∙ w .0 .left)) (c .if1 .came))
+    let e = c .before .before .droppable .ensures in
+    front-step (d .loop .inv) (omega (arith, s .pre .2, s .pre .3)) (c .before .before .before .before .before .loop-test .taken) _
+    (⊎-elim (λ w. w .1 ∙ rw (sym e ∙ w .0 .taken)) (λ w. w .1 ∙ rw (sym e ∙ w .0 .left)) (c .before .if1 .came))
 
 returns : tie.Need-returns Inv-loop μ-loop
 unfolding classesC
@@ -35,4 +35,4 @@ pub classify-spec : {M : Type 1} → statement M
 classify-spec =
     tie.close
     (tie.spec Inv-loop μ-loop loop-holds (λ c. search needs) (λ c. search needs) (λ c. search needs) (λ c κs. search needs) (λ c. search needs)
-    (λ c. search needs) (λ c. search needs) loop-again returns)
+    (λ c. search needs) (λ c. search needs) (λ c. search needs) loop-again returns)

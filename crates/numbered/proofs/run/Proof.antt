@@ -6,7 +6,7 @@ use Rattle.numbered.proofs.run.Tie as tie
 run-requires : tie.Need-run-requires
 run-requires c κs =
     let p = c .before .before .before .before .before .before .before .before .before .before .before .before .before .before .before .before .before .before .before .before .before .before .before .before .pre in
-    (p .good, ((p .number-long, p .slots-fit, p .numbers-fit), (p .count-fits, p .listed-long)))
+    (p .ready, ((p .number-long, p .slots-fit, p .numbers-fit), (p .count-fits, p .listed-long)))
 
 pub run-spec : {M : Type 1} → statement M
 run-spec = tie.close (tie.spec run-requires (λ c. search needs))

@@ -14,20 +14,20 @@ use Rattle.openings.proofs.first.Statement.{statement}
 use Rattle.openings.proofs.first.Tie as tie
 
 abbrev Inv-loop : tie.InvT-loop
-Inv-loop owner₀ class taken₀ home₀ member₀ ints₀ exts₀ mark₀ cost joined₀ number₀ fixed opens slots line₀ tail₀ left₀ at₀ now₀ slot₀ given₀ owner
+Inv-loop owner₀ plan taken₀ home₀ member₀ ints₀ exts₀ mark₀ cost joined₀ number₀ fixed opens slots line₀ tail₀ left₀ at₀ now₀ slot₀ given₀ owner
     taken home member ints exts mark joined number line tail left at now slot given =
-    First class cost fixed (firstC class cost fixed opens [] number₀ slots given₀ 0
+    First plan cost fixed (firstC plan cost fixed opens [] number₀ slots given₀ 0
     (columns owner₀ taken₀ home₀ member₀ ints₀ exts₀ mark₀ joined₀ now₀))
     line tail left number slot given at (columns owner taken home member ints exts mark joined now)
 
 abbrev μ-loop : tie.MeasureT-loop
-μ-loop owner₀ class taken₀ home₀ member₀ ints₀ exts₀ mark₀ cost joined₀ number₀ fixed opens slots line₀ tail₀ left₀ at₀ now₀ slot₀ given₀ owner taken
+μ-loop owner₀ plan taken₀ home₀ member₀ ints₀ exts₀ mark₀ cost joined₀ number₀ fixed opens slots line₀ tail₀ left₀ at₀ now₀ slot₀ given₀ owner taken
     home member ints exts mark joined number line tail left at now slot given =
     left
 
 loop-holds : tie.Need-loop-holds Inv-loop μ-loop
 loop-holds c = record {
-  good = c .before .pre .0;
+  ready = c .before .pre .0;
   same = refl;
   long = search needs;
   wide = c .before .pre .1 .0;
@@ -61,14 +61,14 @@ element-write-number c = omega (arith, c .before .loop .inv .room, c .loop-test 
 seek-requires : tie.Need-seek-requires Inv-loop μ-loop
 seek-requires c κs =
     let v = c .before .before .before .before .before .before .before .before .before .loop .inv in
-    (v .good, omega (arith, v .room, c .before .before .before .before .before .before .before .before .loop-test .taken))
+    (v .ready, omega (arith, v .room, c .before .before .before .before .before .before .before .before .loop-test .taken))
 
 held-requires : tie.Need-held-requires Inv-loop μ-loop
 held-requires c κs =
     let v = c .before .before .before .before .before .before .before .before .before .before .before .before .before .loop .inv in
     let l = c .before .before .before .before .before .before .before .before .before .before .before .before .loop-test .taken in
-    let good = sought v l (c .before .before .before .seek .ensures) in
-    (omega (arith, v .room, l), (good .store .ints-long, good .store .exts-long))
+    let ready = sought v l (c .before .before .before .seek .ensures) in
+    (omega (arith, v .room, l), (ready .good .store .ints-long, ready .good .store .exts-long))
 
 element-write-number-2 : tie.Need-element-write-number-2 Inv-loop μ-loop
 element-write-number-2 c = omega (
@@ -94,8 +94,8 @@ full-requires c κs =
     .loop .inv in
     let l = c .before .before .before .before .before .before .before .before .before .before .before .before .before .before .before .before
     .loop-test .taken in
-    let good = sought v l (c .before .before .before .before .before .before .before .seek .ensures) in
-    (omega (arith, v .room, l), (good .store .ints-long, good .store .exts-long))
+    let ready = sought v l (c .before .before .before .before .before .before .before .seek .ensures) in
+    (omega (arith, v .room, l), (ready .good .store .ints-long, ready .good .store .exts-long))
 
 cast-line : tie.Need-cast-line Inv-loop μ-loop
 cast-line c = omega (
@@ -165,7 +165,7 @@ loop-again c =
 serve-requires : tie.Need-serve-requires Inv-loop μ-loop
 serve-requires c κs =
     let v = c .before .before .before .before .before .before .before .before .before .before .loop .inv in
-    (v .good, ((v .long, omega (arith, v .fits, v .room)), v .slots))
+    (v .ready, ((v .long, omega (arith, v .fits, v .room)), v .slots))
 
 returns-2 : tie.Need-returns-2 Inv-loop μ-loop
 returns-2 c =

@@ -7,25 +7,25 @@ use borrow.Author.Needs.{needs}
 use borrow.Author.Tests.{not-true, not-false}
 use Rattle.meaning.specs.Meaning.{columns}
 use Rattle.meaning.specs.Passes.{serveC, lineIn}
-use Rattle.openings.proofs.Steps.{Line, serve-end, in-places, in-line, small, next-good, serve-stays, serve-full, serve-back}
+use Rattle.openings.proofs.Steps.{Line, serve-end, in-places, in-line, small, next-ready, serve-stays, serve-full, serve-back}
 use Rattle.openings.proofs.serve.Statement.{statement}
 use Rattle.openings.proofs.serve.Tie as tie
 
 abbrev Inv-loop : tie.InvT-loop
-Inv-loop owner₀ class taken₀ home₀ member₀ ints₀ exts₀ mark₀ cost joined₀ line₀ fixed tail from head₀ back₀ at₀ now₀ owner taken home member ints exts
+Inv-loop owner₀ plan taken₀ home₀ member₀ ints₀ exts₀ mark₀ cost joined₀ line₀ fixed tail from head₀ back₀ at₀ now₀ owner taken home member ints exts
     mark joined line head back at now =
-    Line class cost fixed (serveC class cost fixed (lineIn line₀ 0 tail) (fixed .places - from) from
+    Line plan cost fixed (serveC plan cost fixed (lineIn line₀ 0 tail) (fixed .places - from) from
     (columns owner₀ taken₀ home₀ member₀ ints₀ exts₀ mark₀ joined₀ now₀)) line head
     back at (columns owner taken home member ints exts mark joined now)
 
 abbrev μ-loop : tie.MeasureT-loop
-μ-loop owner₀ class taken₀ home₀ member₀ ints₀ exts₀ mark₀ cost joined₀ line₀ fixed tail from head₀ back₀ at₀ now₀ owner taken home member ints exts
+μ-loop owner₀ plan taken₀ home₀ member₀ ints₀ exts₀ mark₀ cost joined₀ line₀ fixed tail from head₀ back₀ at₀ now₀ owner taken home member ints exts
     mark joined line head back at now =
     fixed .places - at
 
 loop-holds : tie.Need-loop-holds Inv-loop μ-loop
 loop-holds c = record {
-  good = c .pre .0;
+  ready = c .pre .0;
   same = refl;
   long = c .pre .1 .0 .0;
   fits = c .pre .1 .0 .1;
@@ -37,22 +37,22 @@ element-copy-out-wide8 : tie.Need-element-copy-out-wide8 Inv-loop μ-loop
 element-copy-out-wide8 c =
     let v = c .before .before .loop .inv in
     let w = sym (c .before .waiting .ensures) ∙ c .if1 .taken in
-    omega (arith, in-line v w, v .fits, in-places v w, v .good .store .places-fit)
+    omega (arith, in-line v w, v .fits, in-places v w, v .ready .good .store .places-fit)
 
 moving-requires : tie.Need-moving-requires Inv-loop μ-loop
 moving-requires c κs =
     let v = c .before .before .before .before .before .before .loop .inv in
     let w = sym (c .before .before .before .before .before .waiting .ensures) ∙ c .before .before .before .before .if1 .taken in
-    (omega (arith, in-places v w, v .good .store .places-fit), (v .good .store .home-long, v .good .marks .mark-long))
+    (omega (arith, in-places v w, v .ready .good .store .places-fit), (v .ready .good .store .home-long, v .ready .good .marks .mark-long))
 
 meet-requires : tie.Need-meet-requires Inv-loop μ-loop
 meet-requires c κs =
     let v = c .before .before .before .before .before .before .before .before .before .before .before .before .before .before .before .loop .inv in
     let w = sym (c .before .before .before .before .before .before .before .before .before .before .before .before .before .before .waiting .ensures)
     ∙ c .before .before .before .before .before .before .before .before .before .before .before .before .before .if1 .taken in (
-      v .good,
+      v .ready,
       (
-        omega (arith, in-places v w, v .good .store .places-fit),
+        omega (arith, in-places v w, v .ready .good .store .places-fit),
         omega (
           arith,
           c .before .before .before .before .before .before .before
@@ -68,7 +68,7 @@ add-at c =
     .inv in
     let w = sym (c .before .before .before .before .before .before .before .before .before .before .before .before .before .before .before .waiting
     .ensures) ∙ c .before .before .before .before .before .before .before .before .before .before .before .before .before .before .if1 .taken in
-    omega (arith, in-places v w, v .good .store .places-fit)
+    omega (arith, in-places v w, v .ready .good .store .places-fit)
 
 add-head : tie.Need-add-head Inv-loop μ-loop
 add-head c =
@@ -77,7 +77,7 @@ add-head c =
     let w = sym (c .before .before .before .before .before .before .before .before .before .before .before .before .before .before .before .before
     .waiting .ensures) ∙ c .before .before .before .before .before .before .before .before .before .before .before .before .before .before .before
     .if1 .taken in
-    omega (arith, in-line v w, v .fits, in-places v w, v .good .store .places-fit)
+    omega (arith, in-line v w, v .fits, in-places v w, v .ready .good .store .places-fit)
 
 full-requires : tie.Need-full-requires Inv-loop μ-loop
 full-requires c κs =
@@ -88,8 +88,8 @@ full-requires c κs =
     .before .before .before .before .if1 .taken in
     let p = c .before .before .before .before .before .before .before .before .before .before .before .before .before .before .before .wide8 .ensures
     .0 in
-    let good = next-good v w p (c .before .before .before .meet .ensures) in
-    (omega (arith, p, small v w), (good .store .ints-long, good .store .exts-long))
+    let ready = next-ready v w p (c .before .before .before .meet .ensures) in
+    (omega (arith, p, small v w), (ready .good .store .ints-long, ready .good .store .exts-long))
 
 cast-line : tie.Need-cast-line Inv-loop μ-loop
 cast-line c =
@@ -111,7 +111,7 @@ element-write-line c =
     let w = sym (c .before .before .before .before .before .before .before .before .before .before .before .before .before .before .before .before
     .before .before .before .before .waiting .ensures) ∙ c .before .before .before .before .before .before .before .before .before .before .before
     .before .before .before .before .before .before .before .before .if1 .taken in
-    omega (arith, v .fits, in-places v w, v .good .store .places-fit)
+    omega (arith, v .fits, in-places v w, v .ready .good .store .places-fit)
 
 add-back : tie.Need-add-back Inv-loop μ-loop
 add-back c =
@@ -120,7 +120,7 @@ add-back c =
     let w = sym (c .before .before .before .before .before .before .before .before .before .before .before .before .before .before .before .before
     .before .before .before .before .waiting .ensures) ∙ c .before .before .before .before .before .before .before .before .before .before .before
     .before .before .before .before .before .before .before .before .if1 .taken in
-    omega (arith, v .fits, in-places v w, v .good .store .places-fit)
+    omega (arith, v .fits, in-places v w, v .ready .good .store .places-fit)
 
 loop-less : tie.Need-loop-less Inv-loop μ-loop
 loop-less c =

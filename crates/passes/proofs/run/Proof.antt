@@ -2,7 +2,7 @@
 use mathlib.Core.Path.{_∙_}
 use native.Mathlib.Omega.{arith}
 use lib.ListN.{take}
-use Rattle.passes.proofs.Steps.{ran-good, ran-long, ran-both, swept-long, swept-left, ran}
+use Rattle.passes.proofs.Steps.{ran-ready, ran-long, ran-both, swept-long, swept-left, ran}
 use Rattle.passes.proofs.run.Statement.{statement}
 use Rattle.passes.proofs.run.Tie as tie
 
@@ -16,30 +16,30 @@ second-requires c κs =
     let a = st .args in
     let e = c .before .before .before .before .before .before .before .before .before .before .first .ensures in
     let room = st .pre .1 .0 .1 in
-    let good = ran-good (a .class .now) (a .cost .now) (a .fixed) (a .opens) (a .number .now) (a .slots) (a .last .0) _ (st .pre .0) room e in
-    let long = ran-long (a .class .now) (a .cost .now) (a .fixed) (a .opens) (a .number .now) (a .slots) (a .last .0) _ (st .pre .0) room e in
-    (good, ((omega (arith, room), st .pre .1 .1 .0), (long ∙ st .pre .1 .0 .0, st .pre .1 .1 .1)))
+    let ready = ran-ready (a .plan .now) (a .cost .now) (a .fixed) (a .opens) (a .number .now) (a .slots) (a .last .0) _ (st .pre .0) room e in
+    let long = ran-long (a .plan .now) (a .cost .now) (a .fixed) (a .opens) (a .number .now) (a .slots) (a .last .0) _ (st .pre .0) room e in
+    (ready, ((omega (arith, room), st .pre .1 .1 .0), (long ∙ st .pre .1 .0 .0, st .pre .1 .1 .1)))
 
 sweep-requires : tie.Need-sweep-requires
 sweep-requires c κs =
     let st = c .before .before .before .before .before .before .before .before .before .before .before .before .before .before .before .before .before
     .before .before .before .before .before .before in
     let a = st .args in
-    let good = ran-both (a .class .now) (a .cost .now) (a .fixed) (a .opens) (a .number .now) (a .slots) (a .last .0) _ (st .pre .0)
+    let ready = ran-both (a .plan .now) (a .cost .now) (a .fixed) (a .opens) (a .number .now) (a .slots) (a .last .0) _ (st .pre .0)
     (st .pre .1 .0 .1) (c .before .before .before .before .before .before .before .before .before .before .before .before .before .first .ensures)
     (take (a .count) (a .listed .now)) (c .before .before .second .ensures) in
-    (good .store .rows-fit, good .store .owner-long)
+    (ready .good .store .rows-fit, ready .good .store .owner-long)
 
 finish-requires : tie.Need-finish-requires
 finish-requires c κs =
     let st = c .before .before .before .before .before .before .before .before .before .before .before .before .before .before .before .before .before
     .before .before .before .before .before .before .before .before in
     let a = st .args in
-    let good = ran-both (a .class .now) (a .cost .now) (a .fixed) (a .opens) (a .number .now) (a .slots) (a .last .0) _ (st .pre .0)
+    let ready = ran-both (a .plan .now) (a .cost .now) (a .fixed) (a .opens) (a .number .now) (a .slots) (a .last .0) _ (st .pre .0)
     (st .pre .1 .0 .1) (c .before .before .before .before .before .before .before .before .before .before .before .before .before .before .before
     .first .ensures) (take (a .count) (a .listed .now)) (c .before .before .before .before .second .ensures) in (
-      (good .store .rows-fit, swept-long (a .class .now) good _ (c .before .sweep .ensures)),
-      swept-left (a .class .now) good _
+      (ready .good .store .rows-fit, swept-long (a .plan .now) ready _ (c .before .sweep .ensures)),
+      swept-left (a .plan .now) ready _
           (c .before .sweep .ensures),
     )
 
@@ -49,7 +49,7 @@ returns c =
     .before .before .before .before .before .before .before .before .before .before .before in
     let a = st .args in
     let ends = c .before .before .finish .ensures in
-    ran (a .class .now) (a .cost .now) (a .fixed) (a .opens) (a .number .now) (a .slots) (a .last .0) _ (st .pre .0) (st .pre .1 .0 .1)
+    ran (a .plan .now) (a .cost .now) (a .fixed) (a .opens) (a .number .now) (a .slots) (a .last .0) _ (st .pre .0) (st .pre .1 .0 .1)
     (c .before .before .before .before .before .before .before .before .before .before .before .before .before .before .before .before .before .before
     .first .ensures) (take (a .count) (a .listed .now)) (c .before .before .before .before .before .before .before .second .ensures)
     (c .before .before .before .before .sweep .ensures)

@@ -13,19 +13,19 @@ use Rattle.passes.proofs.second.Statement.{statement}
 use Rattle.passes.proofs.second.Tie as tie
 
 abbrev Inv-loop : tie.InvT-loop
-Inv-loop owner₀ class taken₀ home₀ member₀ ints₀ exts₀ mark₀ cost joined₀ number listed fixed count entry from i₀ at₀ now₀ owner taken home
+Inv-loop owner₀ plan taken₀ home₀ member₀ ints₀ exts₀ mark₀ cost joined₀ number listed fixed count entry from i₀ at₀ now₀ owner taken home
     member ints exts mark joined i at now =
-    Second class cost fixed number entry (secondC class cost fixed number entry (take count listed) from
+    Second plan cost fixed number entry (secondC plan cost fixed number entry (take count listed) from
     (columns owner₀ taken₀ home₀ member₀ ints₀ exts₀ mark₀ joined₀ now₀)) listed
     count i at (columns owner taken home member ints exts mark joined now)
 
 abbrev μ-loop : tie.MeasureT-loop
-μ-loop owner₀ class taken₀ home₀ member₀ ints₀ exts₀ mark₀ cost joined₀ number listed fixed count entry from i₀ at₀ now₀ owner taken home member ints
+μ-loop owner₀ plan taken₀ home₀ member₀ ints₀ exts₀ mark₀ cost joined₀ number listed fixed count entry from i₀ at₀ now₀ owner taken home member ints
     exts mark joined i at now =
     count - i
 
 loop-holds : tie.Need-loop-holds Inv-loop μ-loop
-loop-holds c = record { good = c .pre .0; same = refl }
+loop-holds c = record { ready = c .pre .0; same = refl }
 
 element-copy-out-t27 : tie.Need-element-copy-out-t27 Inv-loop μ-loop
 element-copy-out-t27 c = omega (arith, c .loop-test .taken, c .before .before .pre .1 .0 .1)
@@ -35,7 +35,7 @@ position-of-requires c κs = let st = c .before .before .before in (st .pre .1 .
 
 visit-requires : tie.Need-visit-requires Inv-loop μ-loop
 visit-requires c κs = (
-  c .before .before .before .before .before .before .before .before .before .before .before .before .loop .inv .good,
+  c .before .before .before .before .before .before .before .before .before .before .before .before .loop .inv .ready,
   omega (
     arith,
     c .before .before .before .before .before .before .before .before .if1 .taken,

@@ -9,12 +9,12 @@ use Rattle.walks.proofs.attempt.Tie as tie
 check-requires : tie.Need-check-requires
 check-requires c κs =
     let st = c .before .before .before .before in
-    (st .pre .0 .marks, (st .pre .0 .cost-long, st .pre .1 .0))
+    (st .pre .0 .good .marks, (st .pre .0 .good .cost-long, st .pre .1 .0))
 
 pass-over-requires : tie.Need-pass-over-requires
 pass-over-requires c κs =
     let st = c .before .before .before .before .before .before .before in
-    (st .pre .0 .store .rows-fit, st .pre .0 .store .owner-long)
+    ((st .pre .0 .good .store .rows-fit, st .pre .0 .good .store .owner-long), (st .pre .0 .linked, st .pre .1 .0))
 
 returns : tie.Need-returns
 returns c =
@@ -25,9 +25,9 @@ returns c =
 move-to-requires : tie.Need-move-to-requires
 move-to-requires c κs =
     let st = c .before .before .before .before .before .before .before .before .before .before .before .before in
-    let good = check-store (st .args .class .now) (st .args .cost .now) (st .args .fixed) (st .args .slot) (st .args .party) _ (st .pre .0)
+    let store = check-store (st .args .plan .now) (st .args .cost .now) (st .args .fixed) (st .args .slot) (st .args .party) _ (st .pre .0)
     (c .before .before .before .before .before .before .before .check .ensures) in
-    (good, st .pre .1)
+    (store, (st .pre .1, st .pre .0 .linked))
 
 returns-2 : tie.Need-returns-2
 returns-2 c =

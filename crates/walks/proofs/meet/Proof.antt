@@ -7,7 +7,7 @@ use Rattle.walks.proofs.meet.Tie as tie
 pass-over-requires : tie.Need-pass-over-requires
 pass-over-requires c κs =
     let st = c .before .before .before in
-    (st .pre .0 .store .rows-fit, st .pre .0 .store .owner-long)
+    ((st .pre .0 .good .store .rows-fit, st .pre .0 .good .store .owner-long), (st .pre .0 .linked, st .pre .1 .0))
 
 returns : tie.Need-returns
 returns c = meet-pass _ _ _ _ _ _ (c .before .before .if1 .taken) (c .pass-over .ensures)

@@ -7,29 +7,29 @@ use native.Mathlib.Omega.{arith}
 use borrow.Author.Needs.{needs}
 use Rattle.meaning.specs.Meaning.{columns}
 use Rattle.meaning.specs.Walks.{ownC}
-use Rattle.walks.proofs.Steps.{Going, Own, own-end, own-small, own-other, own-good, own-more, own-on, own-stop}
+use Rattle.walks.proofs.Steps.{Going, Own, own-end, own-small, own-other, own-ready, own-more, own-on, own-stop}
 use Rattle.walks.proofs.own.Statement.{statement}
 use Rattle.walks.proofs.own.Tie as tie
 
 abbrev Inv-loop : tie.InvT-loop
-Inv-loop owner₀ class taken₀ home₀ member₀ ints₀ exts₀ mark₀ cost joined₀ fixed slot next₀ now₀ count owner taken home member ints exts mark joined
+Inv-loop owner₀ plan taken₀ home₀ member₀ ints₀ exts₀ mark₀ cost joined₀ fixed slot next₀ now₀ count owner taken home member ints exts mark joined
     next now =
-    Going fixed cost (Own class cost fixed slot count)
-    (ownC class cost fixed slot count 0 (columns owner₀ taken₀ home₀ member₀ ints₀ exts₀ mark₀ joined₀ now₀)) next
+    Going fixed plan cost (Own plan cost fixed slot count)
+    (ownC plan cost fixed slot count 0 (columns owner₀ taken₀ home₀ member₀ ints₀ exts₀ mark₀ joined₀ now₀)) next
     (columns owner taken home member ints exts mark joined now)
     × (count ≤ now .accounts)
 
 abbrev μ-loop : tie.MeasureT-loop
-μ-loop owner₀ class taken₀ home₀ member₀ ints₀ exts₀ mark₀ cost joined₀ fixed slot next₀ now₀ count owner taken home member ints exts mark joined next
+μ-loop owner₀ plan taken₀ home₀ member₀ ints₀ exts₀ mark₀ cost joined₀ fixed slot next₀ now₀ count owner taken home member ints exts mark joined next
     now = count - next
 
 loop-holds : tie.Need-loop-holds Inv-loop μ-loop
-loop-holds c = (record { good = c .pre .0; same = rw sub-zero }, omega arith)
+loop-holds c = (record { ready = c .pre .0; same = rw sub-zero }, omega arith)
 
 element-copy-out-wide16 : tie.Need-element-copy-out-wide16 Inv-loop μ-loop
 element-copy-out-wide16 c =
     let lp = c .before in
-    omega (arith, c .loop-test .taken, lp .loop .inv .1, lp .loop .inv .0 .good .store .enters)
+    omega (arith, c .loop-test .taken, lp .loop .inv .1, lp .loop .inv .0 .ready .good .store .enters)
 
 element-copy-out-wide8 : tie.Need-element-copy-out-wide8 Inv-loop μ-loop
 element-copy-out-wide8 c =
@@ -50,7 +50,7 @@ attempt-requires c κs =
     let small = own-small _ _ _ _ (lp .before .pre .1) (lp .loop .inv .0) (lp .loop .inv .1)
     (c .before .before .before .before .before .before .before .before .before .before .before .before .before .before .before .loop-test
     .taken) in (
-      lp .loop .inv .0 .good,
+      lp .loop .inv .0 .ready,
       (
         omega (
           arith,
@@ -66,14 +66,14 @@ stops-requires : tie.Need-stops-requires Inv-loop μ-loop
 stops-requires c κs =
     let lp = c .before .before .before .before .before .before .before .before .before .before .before .before .before .before .before .before .before
     .before .before in
-    let good = own-good _ _ _ _ (lp .before .pre .1) (lp .loop .inv .0) (lp .loop .inv .1)
+    let ready = own-ready _ _ _ _ (lp .before .pre .1) (lp .loop .inv .0) (lp .loop .inv .1)
     (c .before .before .before .before .before .before .before .before .before .before .before .before .before .before .before .before .before
     .before .loop-test .taken)
     (c .before .before .before .before .before .before .before .before .before .before .before .before .before .before .before .before .wide16
     .ensures .0) (c .before .before .before .before .before .before .before .before .before .before .before .before .before .before .wide8
     .ensures .0) (c .before .before .before .before .before .before .before .before .before .before .before .before .before .if1 .taken)
     (c .before .before .attempt .ensures) in
-    (lp .before .pre .1, (good .store .ints-long, good .store .exts-long))
+    (lp .before .pre .1, (ready .good .store .ints-long, ready .good .store .exts-long))
 
 returns : tie.Need-returns Inv-loop μ-loop
 returns c =
@@ -91,7 +91,7 @@ returns c =
 add-next : tie.Need-add-next Inv-loop μ-loop
 add-next c =
     let lp = c .before .before .before .before .before .before in
-    omega (arith, c .before .before .before .before .before .loop-test .taken, lp .loop .inv .1, lp .loop .inv .0 .good .store .enters)
+    omega (arith, c .before .before .before .before .before .loop-test .taken, lp .loop .inv .1, lp .loop .inv .0 .ready .good .store .enters)
 
 loop-less : tie.Need-loop-less Inv-loop μ-loop
 loop-less c = omega (arith, c .before .before .before .before .before .loop-test .taken)

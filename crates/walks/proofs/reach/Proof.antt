@@ -5,40 +5,40 @@ use Prim.Native.Nat.{_-_}
 use native.Mathlib.Omega.{arith}
 use Rattle.meaning.specs.Meaning.{columns}
 use Rattle.meaning.specs.Walks.{reachC}
-use Rattle.walks.proofs.Steps.{Going, Reach, reach-end, reach-on, reach-stop, reach-good}
+use Rattle.walks.proofs.Steps.{Going, Reach, reach-end, reach-on, reach-stop, reach-ready}
 use Rattle.walks.proofs.reach.Statement.{statement}
 use Rattle.walks.proofs.reach.Tie as tie
 
 abbrev Inv-loop : tie.InvT-loop
-Inv-loop owner₀ class taken₀ home₀ member₀ ints₀ exts₀ mark₀ cost joined₀ fixed slot from at₀ now₀ owner taken home member ints exts mark joined at
+Inv-loop owner₀ plan taken₀ home₀ member₀ ints₀ exts₀ mark₀ cost joined₀ fixed slot from at₀ now₀ owner taken home member ints exts mark joined at
     now =
-    Going fixed cost (Reach class cost fixed slot)
-    (reachC class cost fixed slot (fixed .places - from) from (columns owner₀ taken₀ home₀ member₀ ints₀ exts₀ mark₀ joined₀ now₀)) at
+    Going fixed plan cost (Reach plan cost fixed slot)
+    (reachC plan cost fixed slot (fixed .places - from) from (columns owner₀ taken₀ home₀ member₀ ints₀ exts₀ mark₀ joined₀ now₀)) at
     (columns owner taken home member ints exts mark joined now)
 
 abbrev μ-loop : tie.MeasureT-loop
-μ-loop owner₀ class taken₀ home₀ member₀ ints₀ exts₀ mark₀ cost joined₀ fixed slot from at₀ now₀ owner taken home member ints exts mark joined at now
+μ-loop owner₀ plan taken₀ home₀ member₀ ints₀ exts₀ mark₀ cost joined₀ fixed slot from at₀ now₀ owner taken home member ints exts mark joined at now
     =
     fixed .places - at
 
 loop-holds : tie.Need-loop-holds Inv-loop μ-loop
-loop-holds c = record { good = c .pre .0; same = refl }
+loop-holds c = record { ready = c .pre .0; same = refl }
 
 moving-requires : tie.Need-moving-requires Inv-loop μ-loop
 moving-requires c κs =
-    let good = c .before .before .before .before .loop .inv .good in
-    (omega (arith, c .before .before .if1 .taken, good .store .places-fit), (good .store .home-long, good .marks .mark-long))
+    let ready = c .before .before .before .before .loop .inv .ready in
+    (omega (arith, c .before .before .if1 .taken, ready .good .store .places-fit), (ready .good .store .home-long, ready .good .marks .mark-long))
 
 meet-requires : tie.Need-meet-requires Inv-loop μ-loop
 meet-requires c κs =
     let lp = c .before .before .before .before .before .before .before .before .before .before .before .before .before in (
-      lp .loop .inv .good,
+      lp .loop .inv .ready,
       (
         omega (
           arith,
           c .before .before .before .before .before .before .before .before .before .before .before .if1 .taken,
           lp
-              .loop .inv .good .store .places-fit,
+              .loop .inv .ready .good .store .places-fit,
         ),
         lp .before .pre .1,
       ),
@@ -49,15 +49,15 @@ add-at c = omega (
   arith,
   c .before .before .before .before .before .before .before .before .before .before .before .before .if1 .taken,
   c .before
-      .before .before .before .before .before .before .before .before .before .before .before .before .before .loop .inv .good .store .places-fit,
+      .before .before .before .before .before .before .before .before .before .before .before .before .before .loop .inv .ready .good .store .places-fit,
 )
 
 stops-requires : tie.Need-stops-requires Inv-loop μ-loop
 stops-requires c κs =
     let lp = c .before .before .before .before .before .before .before .before .before .before .before .before .before .before .before .before in
-    let good = reach-good _ _ _ _ (lp .before .pre .1) (lp .loop .inv) (c .before .before .before .before .before .before .before .before .before
+    let ready = reach-ready _ _ _ _ (lp .before .pre .1) (lp .loop .inv) (c .before .before .before .before .before .before .before .before .before
     .before .before .before .before .before .if1 .taken) (c .before .before .meet .ensures) in
-    (lp .before .pre .1, (good .store .ints-long, good .store .exts-long))
+    (lp .before .pre .1, (ready .good .store .ints-long, ready .good .store .exts-long))
 
 returns : tie.Need-returns Inv-loop μ-loop
 returns c =

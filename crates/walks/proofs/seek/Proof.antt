@@ -5,34 +5,34 @@ use Prim.Native.Nat.{_-_}
 use native.Mathlib.Omega.{arith}
 use Rattle.meaning.specs.Meaning.{columns}
 use Rattle.meaning.specs.Walks.{seekC}
-use Rattle.walks.proofs.Steps.{Going, Seek, seek-end, seek-on, seek-stop, next-good}
+use Rattle.walks.proofs.Steps.{Going, Seek, seek-end, seek-on, seek-stop, next-ready}
 use Rattle.walks.proofs.seek.Statement.{statement}
 use Rattle.walks.proofs.seek.Tie as tie
 
 abbrev Inv-loop : tie.InvT-loop
-Inv-loop owner₀ class taken₀ home₀ member₀ ints₀ exts₀ mark₀ cost joined₀ fixed slot from at₀ now₀ owner taken home member ints exts mark joined at
+Inv-loop owner₀ plan taken₀ home₀ member₀ ints₀ exts₀ mark₀ cost joined₀ fixed slot from at₀ now₀ owner taken home member ints exts mark joined at
     now =
-    Going fixed cost (Seek class cost fixed slot)
-    (seekC class cost fixed slot (fixed .places - from) from (columns owner₀ taken₀ home₀ member₀ ints₀ exts₀ mark₀ joined₀ now₀)) at
+    Going fixed plan cost (Seek plan cost fixed slot)
+    (seekC plan cost fixed slot (fixed .places - from) from (columns owner₀ taken₀ home₀ member₀ ints₀ exts₀ mark₀ joined₀ now₀)) at
     (columns owner taken home member ints exts mark joined now)
 
 abbrev μ-loop : tie.MeasureT-loop
-μ-loop owner₀ class taken₀ home₀ member₀ ints₀ exts₀ mark₀ cost joined₀ fixed slot from at₀ now₀ owner taken home member ints exts mark joined at now
+μ-loop owner₀ plan taken₀ home₀ member₀ ints₀ exts₀ mark₀ cost joined₀ fixed slot from at₀ now₀ owner taken home member ints exts mark joined at now
     =
     fixed .places - at
 
 loop-holds : tie.Need-loop-holds Inv-loop μ-loop
-loop-holds c = record { good = c .pre .0; same = refl }
+loop-holds c = record { ready = c .pre .0; same = refl }
 
 meet-requires : tie.Need-meet-requires Inv-loop μ-loop
 meet-requires c κs =
     let lp = c .before .before .before .before .before .before .before .before .before .before in (
-      lp .loop .inv .good,
+      lp .loop .inv .ready,
       (
         omega (
           arith,
           c .before .before .before .before .before .before .before .before .if1 .taken,
-          lp .loop .inv .good .store
+          lp .loop .inv .ready .good .store
               .places-fit,
         ),
         lp .before .pre .1,
@@ -44,15 +44,15 @@ add-at c = omega (
   arith,
   c .before .before .before .before .before .before .before .before .before .if1 .taken,
   c .before .before .before .before
-      .before .before .before .before .before .before .before .loop .inv .good .store .places-fit,
+      .before .before .before .before .before .before .before .loop .inv .ready .good .store .places-fit,
 )
 
 held-requires : tie.Need-held-requires Inv-loop μ-loop
 held-requires c κs =
     let lp = c .before .before .before .before .before .before .before .before .before .before .before .before .before in
-    let good = next-good _ _ _ _ (lp .before .pre .1) (lp .loop .inv) (c .before .before .before .before .before .before .before .before .before
+    let ready = next-ready _ _ _ _ (lp .before .pre .1) (lp .loop .inv) (c .before .before .before .before .before .before .before .before .before
     .before .before .if1 .taken) (c .before .before .meet .ensures) in
-    (lp .before .pre .1, (good .store .ints-long, good .store .exts-long))
+    (lp .before .pre .1, (ready .good .store .ints-long, ready .good .store .exts-long))
 
 returns : tie.Need-returns Inv-loop μ-loop
 returns c =

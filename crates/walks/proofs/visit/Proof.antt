@@ -1,15 +1,15 @@
 -- `walks::visit` meets its contract: the slot's own accounts, then the branch that its room decides. Assumes nothing.
 use borrow.Author.Needs.{needs}
-use Rattle.walks.proofs.Steps.{owned-good, visit-full, visit-reach}
+use Rattle.walks.proofs.Steps.{owned-ready, visit-full, visit-reach}
 use Rattle.walks.proofs.visit.Statement.{statement}
 use Rattle.walks.proofs.visit.Tie as tie
 
 full-requires : tie.Need-full-requires
 full-requires c κs =
     let st = c .before .before .before .before .before .before .before .before .before .before .before in
-    let good = owned-good (st .args .class .now) (st .args .cost .now) (st .args .fixed) (st .args .slot) (st .args .from) _
+    let ready = owned-ready (st .args .plan .now) (st .args .cost .now) (st .args .fixed) (st .args .slot) (st .args .from) _
     (c .before .before .own .ensures) (st .pre .1) (st .pre .0) in
-    (st .pre .1, (good .store .ints-long, good .store .exts-long))
+    (st .pre .1, (ready .good .store .ints-long, ready .good .store .exts-long))
 
 returns : tie.Need-returns
 returns c = visit-full _ _ _ _ _ _ (c .before .before .before .before .own .ensures) (c .before .full .ensures) (c .if1 .taken)
@@ -18,9 +18,9 @@ reach-requires : tie.Need-reach-requires
 reach-requires c κs =
     let st = c .before .before .before .before .before .before .before .before .before .before .before .before .before .before .before .before .before
     .before .before .before .before in
-    let good = owned-good (st .args .class .now) (st .args .cost .now) (st .args .fixed) (st .args .slot) (st .args .from) _
+    let ready = owned-ready (st .args .plan .now) (st .args .cost .now) (st .args .fixed) (st .args .slot) (st .args .from) _
     (c .before .before .before .before .before .before .before .before .before .before .before .before .own .ensures) (st .pre .1) (st .pre .0) in
-    (good, st .pre .1)
+    (ready, st .pre .1)
 
 returns-2 : tie.Need-returns-2
 returns-2 c =

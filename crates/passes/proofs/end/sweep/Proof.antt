@@ -14,11 +14,11 @@ use Rattle.passes.proofs.end.sweep.Statement.{statement}
 use Rattle.passes.proofs.end.sweep.Tie as tie
 
 abbrev Inv-loop : tie.InvT-loop
-Inv-loop owner₀ class rows from to i₀ owner i =
-    (i ≤ rows) × (length owner ≡ 1024) × (scan (sweepCell class from to) rows i owner ≡ sweepOwners class rows from to owner₀)
+Inv-loop owner₀ plan rows from to i₀ owner i =
+    (i ≤ rows) × (length owner ≡ 1024) × (scan (sweepCell plan from to) rows i owner ≡ sweepOwners plan rows from to owner₀)
 
 abbrev μ-loop : tie.MeasureT-loop
-μ-loop owner₀ class rows from to i₀ owner i = rows - i
+μ-loop owner₀ plan rows from to i₀ owner i = rows - i
 
 loop-holds : tie.Need-loop-holds Inv-loop μ-loop
 unfolding sweepOwners
@@ -47,5 +47,5 @@ returns c =
 pub sweep-spec : {M : Type 1} → statement M
 sweep-spec =
     tie.close
-    (tie.spec Inv-loop μ-loop loop-holds (λ c. search needs) (λ c. search needs) (λ c. search needs) (λ c κs. search needs) (λ c. search needs)
+    (tie.spec Inv-loop μ-loop loop-holds (λ c. search needs) (λ c. search needs) (λ c. search needs) (λ c. search needs) (λ c κs. search needs) (λ c. search needs)
     (λ c. search needs) (λ c. search needs) (λ c. search needs) loop-again returns)
