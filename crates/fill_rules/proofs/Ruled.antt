@@ -30,7 +30,7 @@ use Rattle.meaning.specs.Passes.{RanC}
 use Rattle.entry_rules.specs.Calling.{Call, GoodCall, Lent, args, setOf}
 use Rattle.entry_rules.proofs.Answered.{answered}
 use Rattle.settle_rules.specs.Facts.{keyAt, keysOf}
-use Rattle.fill_rules.specs.Settling.{Settled}
+use Rattle.settle_rules.specs.Settling.{Settled}
 use Rattle.fill_rules.specs.Passing.{Passed, opensOf, ranOf}
 use Rattle.fill_rules.specs.Fills.{Keys, rowsOfKeys, Says, Left, codeOf, answerOf, Stays, Takes, Fills}
 use Rattle.fill_rules.proofs.Known.{Known, bufferIn, groupIn, bytes, bytes-are, taken-up}

@@ -17,7 +17,7 @@ use Rattle.meaning.specs.Passes.{RanC}
 use Rattle.entry_rules.specs.Calling.{Call, GoodCall, Lent, args, setOf}
 use Rattle.entry_rules.proofs.Facts.{few-rows, few-places, slots-small}
 use Rattle.entry_rules.proofs.Lents.{fresh-good}
-use Rattle.fill_rules.specs.Settling.{MayRenumber, MaySettleGroup, MaySettle}
+use Rattle.settle_rules.specs.Settling.{MayRenumber, MaySettleGroup, MaySettle}
 use Rattle.fill_rules.specs.Passing.{Passed, lentOf, startOf}
 use Rattle.fill_rules.specs.Fills.{Keys, rowsOfKeys}
 use Rattle.fill_rules.proofs.Told.{taken-few, joined-few}

@@ -24,7 +24,7 @@ use Rattle.entry.specs.Entry.{sayings}
 use Rattle.entry_rules.specs.Calling.{Call, args, setOf}
 use Rattle.settle_rules.specs.Facts.{keysOf}
 use Rattle.refusals.specs.Refusals.{rowsIn, keyRows, skipsIn, codeC}
-use Rattle.fill_rules.specs.Settling.{Settled}
+use Rattle.settle_rules.specs.Settling.{Settled}
 use Rattle.fill_rules.specs.Passing.{opensOf, ranOf}
 
 -- what a fill is called on; "rows" of three lent columns are as many as all three have

@@ -1,4 +1,3 @@
--- A fill on columns: what its end leaves (Settling), its entry and passes (Passing), and the whole (Fills).
-pub mod Settling
+-- A fill on columns: its entry and passes (Passing), and the whole (Fills).
 pub mod Passing
 pub mod Fills

@@ -4,9 +4,10 @@ use Prim.Native.Nat.{ℕ}
 use Rattle.message.specs.declared.Filter.{Filter}
 use Rattle.entry.specs.Entry.{Sayings}
 use Rattle.numbered.specs.Begin.{Accounts, Held, Slots, beginW}
-use Rattle.numbered.specs.Run.{MayRun, Runs, ranW, runW}
-use Rattle.numbered.specs.declared.Work.{Work}
-use Rattle.numbered.specs.declared.Done.{Done}
+use Rattle.numbered.specs.Run.{MayRun, Runs, runW}
+use Rattle.works.specs.Works.{ranW}
+use Rattle.works.specs.declared.Work.{Work}
+use Rattle.works.specs.declared.Done.{Done}
 use Rattle.fill_rules.specs.Passing.{MayPass, fixedBy, tallyBy, passW}
 
 module _ {a : Accounts} {h : Held} {b : Slots} {s : Sayings} {f : Filter} {height opens slots last : ℕ} (p : MayPass a h b s f height opens slots last)

@@ -19,10 +19,10 @@ use Rattle.skipped.specs.Sets.{GoodRows}
 use Rattle.entry.specs.Entry.{Sayings, sayings, Spoken}
 use Rattle.entry_rules.specs.Calling.{Call, GoodCall, args, setOf}
 use Rattle.meaning.specs.Passes.{RanC}
-use Rattle.numbered.specs.Run.{ranW}
-use Rattle.numbered.specs.declared.Done.{Done}
+use Rattle.works.specs.Works.{ranW}
+use Rattle.works.specs.declared.Done.{Done}
 use Rattle.refusals.specs.Refusals.{rowsIn, MayDecide, codeC}
-use Rattle.fill_rules.specs.Settling.{MaySettle, Settled}
+use Rattle.settle_rules.specs.Settling.{MaySettle, Settled}
 use Rattle.fill_rules.specs.Passing.{MayPass, Passed, passW, accountsOf, heldOf, slotsOf, opensOf, ranOf}
 use Rattle.fill_rules.specs.Fills.{Keys, keys, rowsOfKeys, codeOf, Accepted, Says, says, Left, left, Stays, Takes, Fills}
 use Rattle.fill_rules.proofs.CodeRule.{code-is, accepted-of}

@@ -9,16 +9,16 @@ ghost use Rattle.slots.specs.Good.{Good as GroupGood};
 ghost use Rattle.skipped.specs.Sets.{GoodRows};
 ghost use Rattle.entry.specs.Entry.{sayings};
 ghost use Rattle.numbered.specs.Begin.{accounts as accountsOf, held as heldOf, slots as slotsOf};
-ghost use Rattle.numbered.specs.Run.{ranW};
-ghost use Rattle.fill_rules.specs.Settling.{table};
+ghost use Rattle.works.specs.Works.{ranW};
+ghost use Rattle.settle_rules.specs.Settling.{table};
 ghost use Rattle.fill_rules.specs.Passing.{MayPass, passW};
 ghost use Rattle.fill_rules.specs.Fills.{callOf, keys, says, left, Fills};
 use message::Code;
 use message::Filter;
 use moves::Fixed;
 use moves::Tally;
-use numbered::Done;
 use numbers::SlotId;
+use works::Done;
 
 // What a fill answers beside what it changes: its code, how many messages it collected, its operations, and how many it dropped.
 pub struct Answer {

@@ -6,7 +6,7 @@ use lib.ListN.{replicate}
 use Rattle.columns.specs.Laid.{laidAt}
 use Rattle.message.specs.declared.Filter.{Filter}
 use Rattle.entry.specs.Entry.{Sayings, Judges, Lists, housedC, orderMarks, orderCosts, groupMarks, groupCosts, classesC, ownersC, linkC}
-use Rattle.numbered.specs.declared.Work.{Work}
+use Rattle.works.specs.declared.Work.{Work}
 use Rattle.numbered.specs.declared.Homes.{Homes}
 use Rattle.numbered.specs.declared.Judged.{Judged}
 use Rattle.numbered.specs.declared.Rows.{Rows}

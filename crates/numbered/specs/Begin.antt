@@ -9,7 +9,7 @@ use Rattle.columns.specs.Laid.{laidAt}
 use Rattle.message.specs.declared.Filter.{Filter}
 use Rattle.buckets.specs.Cells.{index, GoodBuckets}
 use Rattle.entry.specs.Entry.{Sayings, Spoken, numberedC, housedC, orderMarks, orderCosts, groupMarks, groupCosts, classesC, ownersC, linkC}
-use Rattle.numbered.specs.declared.Work.{Work}
+use Rattle.works.specs.declared.Work.{Work}
 use Rattle.numbered.specs.declared.Homes.{Homes}
 use Rattle.numbered.specs.declared.Judged.{Judged}
 use Rattle.numbered.specs.declared.Rows.{Rows}

@@ -5,15 +5,11 @@ use mathlib.Core.List.{List}
 use lib.ListN.{length, take}
 use Rattle.moves.specs.declared.Tally.{Tally}
 use Rattle.moves.specs.declared.Fixed.{Fixed}
-use Rattle.meaning.specs.Meaning.{Columns, columns}
 use Rattle.meaning.specs.Walks.{Ready}
-use Rattle.meaning.specs.Passes.{RanC, ranC, runC}
-use Rattle.numbered.specs.declared.Work.{Work}
-use Rattle.numbered.specs.declared.Done.{Done}
-
--- the columns that a run changes
-abbrev pub columnsW : Work → Tally → Columns
-columnsW w t = columns (w .owner) (w .taken) (w .home) (w .member) (w .ints) (w .exts) (w .mark) (w .joined) t
+use Rattle.meaning.specs.Passes.{RanC, runC}
+use Rattle.works.specs.declared.Work.{Work}
+use Rattle.works.specs.declared.Done.{Done}
+use Rattle.works.specs.Works.{columnsW, ranW}
 
 -- `opens` slots more have room, and numbers
 pub record MayRun (w : Work) (f : Fixed) (opens slots last : ℕ) (t : Tally) : Type 0 where
@@ -23,10 +19,6 @@ pub record MayRun (w : Work) (f : Fixed) (opens slots last : ℕ) (t : Tally) : 
   pub numbers-fit : last + opens ≤ 65535
   pub count-fits : w .count ≤ 1024
   pub listed-long : length (w .listed) ≡ 1024
-
--- what a run leaves, as the passes on columns say it
-abbrev pub ranW : Done → RanC
-ranW d = ranC (columnsW (d .work) (d .tally)) (d .work .number) (d .slots) (d .last .0) (d .dropped)
 
 abbrev pub runW : Work → Fixed → (opens slots last : ℕ) → Tally → RanC
 runW w f opens slots last t = runC (w .plan) (w .cost) f opens (take (w .count) (w .listed)) (w .number) slots last (columnsW w t)

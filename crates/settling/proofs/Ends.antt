@@ -29,8 +29,8 @@ use Rattle.meaning.specs.Passes.{RanC}
 use Rattle.settle.specs.Copies.{Takes, TakesRows, TakesOwners, seatsAt, seatedBy, isKey, accountsAt, Fields, Bodies, Entered, Keyed}
 use Rattle.settle.specs.Ends.{MayCount, inCounts, filledC}
 use Rattle.settle_rules.specs.Facts.{heldBy, TableSettled}
-use Rattle.fill_rules.specs.Settling.{noSeats, messages, MayTake, Messages, Took, MayRenumber, Renumbered, from, MaySettleGroup, internalsOf}
-use Rattle.fill_rules.specs.Settling.{MayTell, Told, MaySettle, Settled}
+use Rattle.settle_rules.specs.Settling.{noSeats, messages, MayTake, Messages, Took, MayRenumber, Renumbered, from, MaySettleGroup, internalsOf}
+use Rattle.settle_rules.specs.Settling.{MayTell, Told, MaySettle, Settled}
 
 -- ---- the rows taken
 

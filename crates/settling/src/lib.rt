@@ -2,10 +2,10 @@
 ghost use mathlib.Core.Path.{_≡_};
 ghost use lib.ListN.{length};
 ghost use Rattle.queues.specs.Cols.{cols};
-ghost use Rattle.numbered.specs.Run.{ranW};
+ghost use Rattle.works.specs.Works.{ranW};
 ghost use Rattle.settle_rules.specs.Facts.{TableSettled};
-ghost use Rattle.fill_rules.specs.Settling.{table, noSeats, messages, MayTake, Took, MayRenumber, Renumbered, from, MaySettleGroup, internalsOf, MaySettle, Settled, MayTell, Told};
-use numbered::Done;
+ghost use Rattle.settle_rules.specs.Settling.{table, noSeats, messages, MayTake, Took, MayRenumber, Renumbered, from, MaySettleGroup, internalsOf, MaySettle, Settled, MayTell, Told};
+use works::Done;
 
 // The n rows taken go behind the `at` messages of the group. The owner of each is the seat of the party that gave it, among the members.
 fn take_rows(

@@ -1,0 +1,14 @@
+-- What the columns of a fill, as a value, are to the passes. Assumes nothing.
+use Rattle.moves.specs.declared.Tally.{Tally}
+use Rattle.meaning.specs.Meaning.{Columns, columns}
+use Rattle.meaning.specs.Passes.{RanC, ranC}
+use Rattle.works.specs.declared.Work.{Work}
+use Rattle.works.specs.declared.Done.{Done}
+
+-- the columns that a run changes
+abbrev pub columnsW : Work → Tally → Columns
+columnsW w t = columns (w .owner) (w .taken) (w .home) (w .member) (w .ints) (w .exts) (w .mark) (w .joined) t
+
+-- what a run leaves, as the passes on columns say it
+abbrev pub ranW : Done → RanC
+ranW d = ranC (columnsW (d .work) (d .tally)) (d .work .number) (d .slots) (d .last .0) (d .dropped)
