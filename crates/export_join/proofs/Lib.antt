@@ -1,0 +1,2 @@
+-- What the proofs share: GroupApart (a group in memory is its fields).
+pub mod GroupApart

@@ -1,0 +1,1 @@
+-- The proofs of what the exports share.

@@ -1,0 +1,40 @@
+// What the exports share: an array whose length is said, a test as a number, and a message written part by part.
+ghost use mathlib.Core.Path.{_≡_};
+ghost use lib.ListN.{length};
+ghost use Rattle.export_parts.specs.Parts.{bit, Tells};
+use message::Message;
+
+// An array of 32 bytes as it is, which says how long it is.
+pub fn whole(x: [u8; 32]) -> [u8; 32]
+    ensures { λ r. ⌜ (r ≡ x) × (length x ≡ 32) ⌝ }
+{
+    x
+}
+
+// A test as a number.
+pub fn bit_of(test: bool) -> u8
+    ensures { λ r. ⌜ r ≡ bit test ⌝ }
+{
+    if test { 1 } else { 0 }
+}
+
+// A byte as a word.
+fn wide(x: u8) -> u64
+    ensures { λ r. ⌜ r ≡ x ⌝ }
+{
+    x as u64
+}
+
+// Writes the parts of a message: its kind, its mark, its form and its time; its address; its hash.
+pub fn tell(m: Message, facts: &mut [u64; 4], to: &mut [u8; 32], hashed: &mut [u8; 32])
+    ensures { λ _. ⌜ Tells m (now (facts .exit)) (now (to .exit)) (now (hashed .exit)) ⌝ }
+{
+    let form = m.form;
+    let shape = records::form_byte(form);
+    let special = bit_of(m.special);
+    *facts = [wide(m.kind), wide(special), wide(shape), m.time];
+    let address = m.address;
+    *to = address;
+    let hash = m.hash;
+    *hashed = hash;
+}
