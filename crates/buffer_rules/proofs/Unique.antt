@@ -54,7 +54,7 @@ form-told (suc x) zero a b e = let z : _≡_ {A = ℕ} 0 1 = cc in absurd (omega
 form-told (suc x) (suc y) a b e = omega arith
 
 -- a mark of at most 1, and a number that is 0 without it
-pub mark-told : (n m x y : ℕ) → n ≤ 1 → m ≤ 1 → ifMarked n x ≡ ifMarked m y → n ≡ m
+pub mark-told : {X : Type 0} (n m : ℕ) (x y : X) → n ≤ 1 → m ≤ 1 → ifMarked n x ≡ ifMarked m y → n ≡ m
 mark-told zero zero x y a b e = refl
 mark-told zero (suc m) x y a b e = let z : _≡_ {A = ℕ} 0 1 = cc in absurd (omega arith)
 mark-told (suc n) zero x y a b e = let z : _≡_ {A = ℕ} 0 1 = cc in absurd (omega arith)
@@ -73,7 +73,7 @@ module _ {M A : ℕ} (h k : Half) (g : GoodHalf M A h) (f : GoodHalf M A k) (lon
   orders : orderOf h ≡ orderOf k
   orders = ap (λ (b : Buffer Real). b .order) means
 
-  messages : h .messages ≡ k .messages
+  pub messages : h .messages ≡ k .messages
   messages =
       sym (all-counted h (omega (arith, g .messages)) (g .placed))
       ∙ ap (λ (o : List (Row Real)). length (allMsgs Real o)) orders
