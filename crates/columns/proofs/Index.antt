@@ -75,30 +75,38 @@ module _ {x bytes : List ℕ} {n i : ℕ} (v : Searching x bytes n i) where
   unfolding indexOf
   search-end h = rw (drop-of-length-le (rowsOf n bytes) {i = i} (omega (arith, length-rows n bytes)), add-zero) at (v .rest)
 
--- ---- the loop that compares
+-- ---- the loop that compares, from the last byte on
 pub record Comparing (bytes x : List ℕ) (i j : ℕ) : Type 0 where
   pub within : j ≤ 32
-  pub rest : eqL (drop j (rowAt bytes i)) (drop j x) ≡ eqL (rowAt bytes i) x
+  pub same : drop j (rowAt bytes i) ≡ drop j x
 
-pub compare-start : (bytes x : List ℕ) (i : ℕ) → Comparing bytes x i 0
-compare-start bytes x i = record { within = omega arith; rest = refl }
+module _ (bytes x : List ℕ) (i : ℕ) (fits : 32 * i + 32 ≤ length bytes) (wide : length x ≡ 32) where
+  pub compare-start : Comparing bytes x i 32
+  compare-start = record {
+    within = omega arith;
+    same = drop-of-length-le (rowAt bytes i) {i = 32} (omega (arith, length-row bytes i fits)) ∙ sym (drop-of-length-le x {i = 32} (omega arith));
+  }
 
-module _ {bytes x : List ℕ} {i j : ℕ} (v : Comparing bytes x i j) (fits : 32 * i + 32 ≤ length bytes) (wide : length x ≡ 32) where
-  -- the next byte of each, and what is left
-  split : j < 32 → eqL (rowAt bytes i) x ≡ (eqb (getD bytes (32 * i + j) 0) (getD x j 0) && eqL (drop (j + 1) (rowAt bytes i)) (drop (j + 1) x))
-  unfolding eqL
-  split l =
+  pub compare-step : {j k : ℕ} → Comparing bytes x i j → j ≡ k + 1 → getD bytes (32 * i + k) 0 ≡ getD x k 0 → Comparing bytes x i k
+  compare-step {j} {k} v z e =
       let row = rowAt bytes i in
-      let cell : getD row j 0 ≡ getD bytes (32 * i + j) 0 = row-cell bytes i j l in
-      sym (v .rest) ∙ rw (add-one j, drop-cons row j 0 (omega (arith, length-row bytes i fits)), drop-cons x j 0 (omega arith), cell)
+      let l : k < 32 = omega (arith, v .within) in
+      let rest : drop (suc k) row ≡ drop (suc k) x = rw (z, add-one k) at (v .same) in
+      record {
+        within = omega arith;
+        same =
+            drop-cons row k 0 (omega (arith, length-row bytes i fits))
+            ∙ (rw (row-cell bytes i k l, e, rest) refl)
+            ∙ sym (drop-cons x k 0 (omega arith));
+      }
 
-  pub compare-step : j < 32 → getD bytes (32 * i + j) 0 ≡ getD x j 0 → Comparing bytes x i (j + 1)
-  compare-step l e = record { within = omega arith; rest = sym (rw (eq-eqb _ _ e) at (split l)) }
+  pub compare-differs : {k : ℕ} → k < 32 → (getD bytes (32 * i + k) 0 ≡ getD x k 0 → ⊥) → false ≡ eqL (rowAt bytes i) x
+  compare-differs {k} l n =
+      byBool (eqL (rowAt bytes i) x)
+      (λ t. absurd (n (sym (row-cell bytes i k l) ∙ ap (λ (r : List ℕ). getD r k 0) (eqL-true (rowAt bytes i) x t))))
+      (λ f. sym f)
 
-  pub compare-differs : j < 32 → (getD bytes (32 * i + j) 0 ≡ getD x j 0 → ⊥) → false ≡ eqL (rowAt bytes i) x
-  compare-differs l n = sym (rw (ne-eqb _ _ n) at (split l))
-
-  pub compare-end : 32 ≤ j → true ≡ eqL (rowAt bytes i) x
-  unfolding eqL
-  compare-end h =
-      rw (drop-of-length-le (rowAt bytes i) {i = j} (omega (arith, length-row bytes i fits)), drop-of-length-le x {i = j} (omega arith)) at (v .rest)
+  pub compare-end : {j : ℕ} → Comparing bytes x i j → j ≡ 0 → true ≡ eqL (rowAt bytes i) x
+  compare-end v z =
+      let same : rowAt bytes i ≡ x = rw z at (v .same) in
+      rw same (sym (eqL-self x))

@@ -163,18 +163,18 @@ pub fn count_owned(owner: &[u16], n: usize, p: u16) -> usize
 
 // ---- rows of 32 bytes
 
-// Whether row i is x.
+// Whether row i is x, looked at from the last byte: names that are small numbers differ there.
 pub fn same_row(col: &[u8], i: usize, x: &[u8; 32]) -> bool
     requires { ⌜ (32 * i + 32 ≤ length (now col)) × (length (now x) ≡ 32) ⌝ }
     ensures { λ r. ⌜ r ≡ eqL (rowAt (now (col .entry)) i) (now (x .entry)) ⌝ }
 {
     let base = 32 * i;
-    let mut j: usize = 0;
-    while j < 32 {
+    let mut j: usize = 32;
+    while 0 < j {
+        j -= 1;
         if col[base + j] != x[j] {
             return false;
         }
-        j += 1;
     }
     true
 }
