@@ -3,7 +3,8 @@
 use lintelsong::{Account, Buffer, Fill, Filled, Filter, Group, Hash, Keys, Message, Skipped};
 use oracle::record::{bytes, Record};
 
-use crate::work::{internal, mixed, timed, Shape, Work, ACCOUNTS, COST, MESSAGES};
+use crate::meter::Meter;
+use crate::work::{internal, mixed, Shape, Size, Task, Work, COST, FULL};
 use crate::Told;
 
 /// Everything lent, made once: a collator has it too.
@@ -34,18 +35,19 @@ const TAKEN: &str = "no call of this work is refused";
 impl Desk {
     pub fn new() -> Desk {
         Desk {
-            buffer: Buffer::new(MESSAGES, ACCOUNTS).expect(TAKEN),
+            buffer: Buffer::new(FULL.messages, FULL.accounts).expect(TAKEN),
             left: Group::new(64).expect(TAKEN),
             right: Group::new(64).expect(TAKEN),
             skipped: Skipped::new(),
-            lts: vec![0; MESSAGES as usize],
-            hashes: vec![[0; 32]; MESSAGES as usize],
+            lts: vec![0; FULL.messages as usize],
+            hashes: vec![[0; 32]; FULL.messages as usize],
         }
     }
 
-    /// A fresh buffer of these messages, and two fresh groups.
+    /// A fresh buffer of these messages, with all the room that there can be, and two fresh groups.
     fn load(&mut self, records: impl Iterator<Item = Record>) {
-        self.buffer.set_up(MESSAGES, ACCOUNTS).expect(TAKEN);
+        let room = self.buffer.set_up(FULL.messages, FULL.accounts);
+        room.expect(TAKEN);
         self.left.set_up(64).expect(TAKEN);
         self.right.set_up(64).expect(TAKEN);
         self.skipped.clear();
@@ -81,75 +83,79 @@ impl Desk {
         [counts.internals, counts.externals, counts.accounts]
     }
 
-    pub fn run(&mut self, work: &Work) -> (u64, Told) {
-        match *work {
-            Work::Add { accounts, inside } => self.add(accounts, inside),
-            Work::Fill { shape, expired } => {
-                self.load_full();
-                let (time, told) = timed(|| self.fill(shape, expired.threshold()));
-                (time, [told, self.held(), grouped(&self.left)].concat())
+    pub fn run(&mut self, work: &Work, meter: Meter) -> (u64, Told) {
+        let size = work.size;
+        match work.task {
+            Task::Add { inside } => self.add(size, inside, meter),
+            Task::Fill { shape, expired } => {
+                self.load_mixed(size);
+                let below = expired.threshold(size.messages);
+                let (cost, told) = meter.measure(|| self.fill(shape, below));
+                (cost, [told, self.held(), grouped(&self.left)].concat())
             }
-            Work::SecondFill { shape } => self.second_fill(shape),
-            Work::RolledBack { shape } => self.rolled_back(shape),
-            Work::Join { slots } => self.join(slots),
-            Work::Remove { accounts } => {
-                self.load((0..MESSAGES).map(|i| internal(i, ACCOUNTS, 0)));
+            Task::SecondFill { shape } => self.second_fill(size, shape, meter),
+            Task::RolledBack { shape } => self.rolled_back(size, shape, meter),
+            Task::Join { slots } => self.join(size, slots, meter),
+            Task::Remove { accounts } => {
+                self.load((0..size.messages).map(|i| internal(i, size.accounts, 0)));
                 let names: Vec<Account> = (0..accounts).map(|n| bytes(2 * n).0).collect();
-                let (time, ()) = timed(|| self.buffer.remove(&names).expect(TAKEN));
-                (time, self.held().to_vec())
+                let (cost, ()) = meter.measure(|| self.buffer.remove(&names).expect(TAKEN));
+                (cost, self.held().to_vec())
             }
         }
     }
 
-    fn load_full(&mut self) {
-        self.load((0..MESSAGES).map(|i| mixed(i, ACCOUNTS)));
+    fn load_mixed(&mut self, size: Size) {
+        self.load((0..size.messages).map(|i| mixed(i, size.accounts)));
     }
 
-    fn add(&mut self, accounts: u64, inside: bool) -> (u64, Told) {
-        let before = if inside { MESSAGES / 2 } else { 0 };
-        self.load((0..before).map(|i| mixed(i, accounts)));
-        let rest: Vec<_> = (before..MESSAGES)
-            .map(|i| message(&mixed(i, accounts)))
+    fn add(&mut self, size: Size, inside: bool, meter: Meter) -> (u64, Told) {
+        let before = if inside { size.messages / 2 } else { 0 };
+        self.load((0..before).map(|i| mixed(i, size.accounts)));
+        let rest: Vec<_> = (before..size.messages)
+            .map(|i| message(&mixed(i, size.accounts)))
             .collect();
         if inside {
             self.buffer.begin().expect(TAKEN);
         }
-        let (time, ()) = timed(|| rest.iter().for_each(|m| self.buffer.add(m).expect(TAKEN)));
-        (time, self.held().to_vec())
+        let (cost, ()) =
+            meter.measure(|| rest.iter().for_each(|m| self.buffer.add(m).expect(TAKEN)));
+        (cost, self.held().to_vec())
     }
 
-    fn second_fill(&mut self, shape: Shape) -> (u64, Told) {
-        self.load_full();
+    fn second_fill(&mut self, size: Size, shape: Shape, meter: Meter) -> (u64, Told) {
+        self.load_mixed(size);
         let [collected, ..] = self.fill(shape, None);
         for i in 0..collected {
-            self.buffer.add(&message(&mixed(i, ACCOUNTS))).expect(TAKEN);
+            let again = message(&mixed(i, size.accounts));
+            self.buffer.add(&again).expect(TAKEN);
         }
-        let (time, told) = timed(|| self.fill(shape, None));
-        (time, [told, self.held(), grouped(&self.left)].concat())
+        let (cost, told) = meter.measure(|| self.fill(shape, None));
+        (cost, [told, self.held(), grouped(&self.left)].concat())
     }
 
-    fn rolled_back(&mut self, shape: Shape) -> (u64, Told) {
-        self.load_full();
-        let (time, told) = timed(|| {
+    fn rolled_back(&mut self, size: Size, shape: Shape, meter: Meter) -> (u64, Told) {
+        self.load_mixed(size);
+        let (cost, told) = meter.measure(|| {
             self.buffer.begin().expect(TAKEN);
             let told = self.fill(shape, None);
             self.buffer.rollback().expect(TAKEN);
             told
         });
-        (time, [told, self.held(), grouped(&self.left)].concat())
+        (cost, [told, self.held(), grouped(&self.left)].concat())
     }
 
-    fn join(&mut self, slots: u64) -> (u64, Told) {
-        let (shape, half) = (Shape { slots, height: 16 }, ACCOUNTS / 2);
+    fn join(&mut self, size: Size, slots: u64, meter: Meter) -> (u64, Told) {
+        let (shape, half) = (Shape { slots, height: 16 }, size.accounts / 2);
         // The right group is filled in the left one's place, and set aside.
-        self.load((0..MESSAGES / 2).map(|i| internal(i, half, half)));
+        self.load((0..size.messages / 2).map(|i| internal(i, half, half)));
         self.fill(shape, None);
         let mut right = Group::new(64).expect(TAKEN);
         std::mem::swap(&mut self.left, &mut right);
-        self.load((0..MESSAGES / 2).map(|i| internal(i, half, 0)));
+        self.load((0..size.messages / 2).map(|i| internal(i, half, 0)));
         self.fill(shape, None);
         self.right = right;
-        let (time, ()) = timed(|| self.left.join(&mut self.right).expect(TAKEN));
-        (time, grouped(&self.left).to_vec())
+        let (cost, ()) = meter.measure(|| self.left.join(&mut self.right).expect(TAKEN));
+        (cost, grouped(&self.left).to_vec())
     }
 }

@@ -1,89 +1,89 @@
-//! Times the exported calls beside the original's and prints a table in Markdown: `lintelsong-bench [ROUNDS [REPEATS]]`.
+//! Measures the exported calls beside the original's.
 //!
-//! In each of ROUNDS rounds (31 if not given) every piece of work is done REPEATS times (20) by the original and by the exports, in turn;
-//! the clock is around the calls alone, and the least time counts. What both hold and answer afterwards must agree, or it stops.
-//! *Noise* is how far the middle round's least lies above the least of all, the larger of the two.
+//! `lintelsong-bench [ROUNDS [REPEATS]]` prints a table of times in Markdown. In each of ROUNDS rounds (31 if not given) every piece of
+//! work is done REPEATS times (20) by the original and by the exports, in turn; the clock is around the calls alone, and the least time
+//! counts. *Noise* is how far the middle round's least lies above the least of all, the larger of the two.
+//! `growth [ROUNDS [REPEATS]]` takes times in the same way of smaller and larger buffers, a line each.
+//! `stack` prints a table of the bytes of stack that each call takes.
+//! `rows` and `count SIDE ROW REPEATS` are for counting instructions from outside: SIDE is `original` or `exported`, rows go from 0.
+//!
+//! What both hold and answer after a call must agree, or it stops.
 
+mod counted;
 mod exported;
+mod growth;
+mod meter;
 mod original;
+mod painted;
+mod stack;
+mod times;
 mod work;
 
 use std::process::ExitCode;
 
+use exported::Desk;
+use meter::Meter;
+use times::Rounds;
 use work::Work;
 
 /// Counts that both sides must agree on.
 pub type Told = Vec<u64>;
 
-/// The least time of each round.
-#[derive(Default, Clone)]
-struct Times(Vec<u64>);
-
-impl Times {
-    fn best(&self) -> f64 {
-        self.0.iter().copied().min().unwrap_or(0) as f64
-    }
-
-    fn noise(&self) -> f64 {
-        let mut sorted = self.0.clone();
-        sorted.sort_unstable();
-        sorted[sorted.len() / 2] as f64 / self.best() - 1.0
-    }
+/// Why it ends early.
+pub enum Stop {
+    Usage,
+    /// The two sides part.
+    Parted(String),
 }
+
+pub type Done = Result<(), Stop>;
+
+const USAGE: &str = "usage: lintelsong-bench [ROUNDS [REPEATS]] | growth [ROUNDS [REPEATS]] | stack | rows | count original|exported ROW REPEATS";
 
 fn main() -> ExitCode {
-    let words: Result<Vec<usize>, _> = std::env::args().skip(1).map(|word| word.parse()).collect();
-    let (rounds, repeats) = match words.as_deref() {
-        Ok([]) => (31, 20),
-        Ok(&[rounds]) if rounds > 0 => (rounds, 20),
-        Ok(&[rounds, repeats]) if rounds > 0 && repeats > 0 => (rounds, repeats),
-        _ => {
-            eprintln!("usage: lintelsong-bench [ROUNDS [REPEATS]]");
-            return ExitCode::from(2);
-        }
+    let words: Vec<String> = std::env::args().skip(1).collect();
+    let words: Vec<&str> = words.iter().map(String::as_str).collect();
+    let done = match words[..] {
+        ["stack"] => stack::table(),
+        ["rows"] => counted::rows(),
+        ["count", side, row, repeats] => counted::run(side, row, repeats),
+        ["growth", ref rest @ ..] => rounds_of(rest).and_then(growth::print),
+        ref rest => rounds_of(rest).and_then(times::table),
     };
-    let all = Work::all();
-    let mut times = vec![(Times::default(), Times::default()); all.len()];
-    let mut desk = exported::Desk::new();
-    for _ in 0..rounds {
-        for (work, (theirs, ours)) in all.iter().zip(&mut times) {
-            let Some((their, our)) = least(work, repeats, &mut desk) else {
-                return ExitCode::FAILURE;
-            };
-            theirs.0.push(their);
-            ours.0.push(our);
+    match done {
+        Ok(()) => ExitCode::SUCCESS,
+        Err(Stop::Usage) => {
+            eprintln!("{USAGE}");
+            ExitCode::from(2)
+        }
+        Err(Stop::Parted(how)) => {
+            eprintln!("{how}");
+            ExitCode::FAILURE
         }
     }
-    print(&all, &times, rounds, repeats);
-    ExitCode::SUCCESS
 }
 
-/// The least times of a round, the original's first; none if the two part.
-fn least(work: &Work, repeats: usize, desk: &mut exported::Desk) -> Option<(u64, u64)> {
-    let mut least = (u64::MAX, u64::MAX);
-    for _ in 0..repeats {
-        let (their, right) = original::run(work);
-        let (our, told) = desk.run(work);
-        if told != right {
-            eprintln!("{work}: the original says {right:?}, the exports {told:?}");
-            return None;
-        }
-        least = (least.0.min(their), least.1.min(our));
+fn rounds_of(words: &[&str]) -> Result<Rounds, Stop> {
+    let numbers: Result<Vec<usize>, _> = words.iter().map(|word| word.parse()).collect();
+    let (rounds, repeats) = match numbers.as_deref() {
+        Ok([]) => (31, 20),
+        Ok(&[rounds]) => (rounds, 20),
+        Ok(&[rounds, repeats]) => (rounds, repeats),
+        _ => (0, 0),
+    };
+    if rounds == 0 || repeats == 0 {
+        return Err(Stop::Usage);
     }
-    Some(least)
+    Ok(Rounds { rounds, repeats })
 }
 
-fn print(all: &[Work], times: &[(Times, Times)], rounds: usize, repeats: usize) {
-    println!("Best of {rounds} rounds of {repeats}; what both hold and answer agreed each time.\n");
-    println!("| work | original ns a call | exported ns a call | exported / original | noise |");
-    println!("|---|---|---|---|---|");
-    for (work, (theirs, ours)) in all.iter().zip(times) {
-        let calls = work.calls() as f64;
-        let (their, our) = (theirs.best() / calls, ours.best() / calls);
-        let noise = 100.0 * theirs.noise().max(ours.noise());
-        println!(
-            "| {work} | {their:.0} | {our:.0} | {:.2} | {noise:.0} % |",
-            our / their
-        );
+/// A piece of work done by the original and by the exports, and what each of them took.
+pub fn both(work: &Work, desk: &mut Desk, meter: Meter) -> Result<(u64, u64), Stop> {
+    let (their, right) = original::run(work, meter);
+    let (our, told) = desk.run(work, meter);
+    if told == right {
+        return Ok((their, our));
     }
+    let how = format!("{work}: the original says {right:?}, the exports {told:?}");
+    Err(Stop::Parted(how))
 }

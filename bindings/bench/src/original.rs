@@ -11,7 +11,8 @@ use oracle::record::{bytes, Record};
 use oracle::transactional::Transactional;
 use oracle::FastHashSet;
 
-use crate::work::{internal, mixed, timed, Shape, Work, ACCOUNTS, COST, MESSAGES};
+use crate::meter::Meter;
+use crate::work::{internal, mixed, Shape, Size, Task, Work, COST};
 use crate::Told;
 
 fn message(record: Record) -> ParsedMessage {
@@ -64,72 +65,75 @@ fn grouped(group: &MessageGroup) -> [u64; 3] {
     ]
 }
 
-pub fn run(work: &Work) -> (u64, Told) {
-    match *work {
-        Work::Add { accounts, inside } => add(accounts, inside),
-        Work::Fill { shape, expired } => {
-            let (mut buffer, mut group) = (full(), MessageGroup::default());
-            let (time, told) = timed(|| fill(&mut buffer, &mut group, shape, expired.threshold()));
-            (time, [told, held(&buffer), grouped(&group)].concat())
+pub fn run(work: &Work, meter: Meter) -> (u64, Told) {
+    let size = work.size;
+    match work.task {
+        Task::Add { inside } => add(size, inside, meter),
+        Task::Fill { shape, expired } => {
+            let (mut buffer, mut group) = (loaded(size), MessageGroup::default());
+            let below = expired.threshold(size.messages);
+            let (cost, told) = meter.measure(|| fill(&mut buffer, &mut group, shape, below));
+            (cost, [told, held(&buffer), grouped(&group)].concat())
         }
-        Work::SecondFill { shape } => second_fill(shape),
-        Work::RolledBack { shape } => rolled_back(shape),
-        Work::Join { slots } => join(slots),
-        Work::Remove { accounts } => {
-            let mut buffer = buffer_of((0..MESSAGES).map(|i| internal(i, ACCOUNTS, 0)));
+        Task::SecondFill { shape } => second_fill(size, shape, meter),
+        Task::RolledBack { shape } => rolled_back(size, shape, meter),
+        Task::Join { slots } => join(size, slots, meter),
+        Task::Remove { accounts } => {
+            let records = (0..size.messages).map(|i| internal(i, size.accounts, 0));
+            let mut buffer = buffer_of(records);
             let names: FastHashSet<HashBytes> = (0..accounts).map(|n| bytes(2 * n)).collect();
-            let (time, ()) = timed(|| buffer.remove_int_messages_by_accounts(&names));
-            (time, held(&buffer).to_vec())
+            let (cost, ()) = meter.measure(|| buffer.remove_int_messages_by_accounts(&names));
+            (cost, held(&buffer).to_vec())
         }
     }
 }
 
-fn full() -> MessagesBuffer {
-    buffer_of((0..MESSAGES).map(|i| mixed(i, ACCOUNTS)))
+fn loaded(size: Size) -> MessagesBuffer {
+    buffer_of((0..size.messages).map(|i| mixed(i, size.accounts)))
 }
 
-fn add(accounts: u64, inside: bool) -> (u64, Told) {
-    let before = if inside { MESSAGES / 2 } else { 0 };
-    let mut buffer = buffer_of((0..before).map(|i| mixed(i, accounts)));
-    let rest: Vec<_> = (before..MESSAGES)
-        .map(|i| message(mixed(i, accounts)))
+fn add(size: Size, inside: bool, meter: Meter) -> (u64, Told) {
+    let before = if inside { size.messages / 2 } else { 0 };
+    let mut buffer = buffer_of((0..before).map(|i| mixed(i, size.accounts)));
+    let rest: Vec<_> = (before..size.messages)
+        .map(|i| message(mixed(i, size.accounts)))
         .collect();
     if inside {
         buffer.begin();
     }
-    let (time, ()) = timed(|| rest.into_iter().for_each(|m| buffer.add_message(m)));
-    (time, held(&buffer).to_vec())
+    let (cost, ()) = meter.measure(|| rest.into_iter().for_each(|m| buffer.add_message(m)));
+    (cost, held(&buffer).to_vec())
 }
 
-fn second_fill(shape: Shape) -> (u64, Told) {
-    let (mut buffer, mut group) = (full(), MessageGroup::default());
+fn second_fill(size: Size, shape: Shape, meter: Meter) -> (u64, Told) {
+    let (mut buffer, mut group) = (loaded(size), MessageGroup::default());
     let [collected, ..] = fill(&mut buffer, &mut group, shape, None);
     for i in 0..collected {
-        buffer.add_message(message(mixed(i, ACCOUNTS)));
+        buffer.add_message(message(mixed(i, size.accounts)));
     }
-    let (time, told) = timed(|| fill(&mut buffer, &mut group, shape, None));
-    (time, [told, held(&buffer), grouped(&group)].concat())
+    let (cost, told) = meter.measure(|| fill(&mut buffer, &mut group, shape, None));
+    (cost, [told, held(&buffer), grouped(&group)].concat())
 }
 
-fn rolled_back(shape: Shape) -> (u64, Told) {
-    let (mut buffer, mut group) = (full(), MessageGroup::default());
-    let (time, told) = timed(|| {
+fn rolled_back(size: Size, shape: Shape, meter: Meter) -> (u64, Told) {
+    let (mut buffer, mut group) = (loaded(size), MessageGroup::default());
+    let (cost, told) = meter.measure(|| {
         buffer.begin();
         let told = fill(&mut buffer, &mut group, shape, None);
         buffer.rollback();
         told
     });
-    (time, [told, held(&buffer), grouped(&group)].concat())
+    (cost, [told, held(&buffer), grouped(&group)].concat())
 }
 
-fn join(slots: u64) -> (u64, Told) {
-    let (shape, half) = (Shape { slots, height: 16 }, ACCOUNTS / 2);
+fn join(size: Size, slots: u64, meter: Meter) -> (u64, Told) {
+    let (shape, half) = (Shape { slots, height: 16 }, size.accounts / 2);
     let [left, right] = [0, half].map(|first| {
         let mut group = MessageGroup::default();
-        let records = (0..MESSAGES / 2).map(|i| internal(i, half, first));
+        let records = (0..size.messages / 2).map(|i| internal(i, half, first));
         fill(&mut buffer_of(records), &mut group, shape, None);
         group
     });
-    let (time, joined) = timed(|| left + right);
-    (time, grouped(&joined).to_vec())
+    let (cost, joined) = meter.measure(|| left + right);
+    (cost, grouped(&joined).to_vec())
 }

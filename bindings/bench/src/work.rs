@@ -1,12 +1,21 @@
-//! What is timed: pieces of work that both sides do on the same messages.
+//! What is measured: pieces of work that both sides do on the same messages.
 
 use std::fmt;
-use std::time::Instant;
 
 use oracle::record::Record;
 
-pub const MESSAGES: u64 = 1024;
-pub const ACCOUNTS: u64 = 256;
+/// How many messages a buffer is filled with, and of how many accounts.
+#[derive(Clone, Copy, PartialEq)]
+pub struct Size {
+    pub messages: u64,
+    pub accounts: u64,
+}
+
+/// As much as a buffer can hold.
+pub const FULL: Size = Size {
+    messages: 1024,
+    accounts: 256,
+};
 
 /// The time of the first message; the i-th comes i later.
 const FIRST_TIME: u64 = 1000;
@@ -25,12 +34,12 @@ pub enum Expired {
 }
 
 impl Expired {
-    /// The threshold of the filter, if it is on.
-    pub fn threshold(self) -> Option<u64> {
+    /// The threshold of the filter, if it is on, among so many messages.
+    pub fn threshold(self, messages: u64) -> Option<u64> {
         match self {
             Expired::Off => None,
             Expired::Nobody => Some(FIRST_TIME),
-            Expired::Half => Some(FIRST_TIME + MESSAGES / 2),
+            Expired::Half => Some(FIRST_TIME + messages / 2),
             Expired::All => Some(u64::MAX),
         }
     }
@@ -42,46 +51,68 @@ pub struct Shape {
     pub height: u64,
 }
 
-pub enum Work {
-    /// Adds to a buffer until it is full: all messages, or, inside a transaction, the second half.
-    Add { accounts: u64, inside: bool },
-    /// A fill of a fresh group from a full buffer.
+pub const SHAPES: [Shape; 2] = [
+    Shape {
+        slots: 16,
+        height: 4,
+    },
+    Shape {
+        slots: 64,
+        height: 16,
+    },
+];
+
+/// A task, on a buffer of this size.
+#[derive(Clone, Copy)]
+pub struct Work {
+    pub size: Size,
+    pub task: Task,
+}
+
+#[derive(Clone, Copy)]
+pub enum Task {
+    /// Adds to a buffer: all messages, or, inside a transaction, the second half.
+    Add { inside: bool },
+    /// A fill of a fresh group.
     Fill { shape: Shape, expired: Expired },
-    /// A fill of a group that one such fill has left, the buffer made full again.
+    /// A fill of a group that one such fill has left, what was collected added again.
     SecondFill { shape: Shape },
     /// Begin, a fill and a rollback.
     RolledBack { shape: Shape },
     /// A join of two groups of so many slots, 16 messages each.
     Join { slots: u64 },
-    /// A removal of so many of the accounts of a buffer full of internals.
+    /// A removal of so many accounts, every other one from the first on, of a buffer of internals.
     Remove { accounts: u64 },
 }
 
 impl Work {
-    /// By how much its time is divided: adds are timed many at a time.
+    /// By how much what is measured is divided: adds are measured many at a time.
     pub fn calls(&self) -> u64 {
-        match self {
-            Work::Add { inside: false, .. } => MESSAGES,
-            Work::Add { inside: true, .. } => MESSAGES / 2,
+        match self.task {
+            Task::Add { inside: false } => self.size.messages,
+            Task::Add { inside: true } => self.size.messages / 2,
             _ => 1,
         }
     }
 
+    /// The rows of the table.
     pub fn all() -> Vec<Work> {
-        let shapes = [(16, 4), (64, 16)].map(|(slots, height)| Shape { slots, height });
-        let mut all = Vec::new();
-        for accounts in [64, ACCOUNTS] {
-            all.extend([false, true].map(|inside| Work::Add { accounts, inside }));
-        }
-        for shape in shapes {
+        let adds = [64, FULL.accounts].map(|accounts| Size { accounts, ..FULL });
+        let adds = adds
+            .iter()
+            .flat_map(|&size| [false, true].map(|inside| (size, Task::Add { inside })));
+        let mut rest = Vec::new();
+        for shape in SHAPES {
             let each = [Expired::Off, Expired::Nobody, Expired::Half, Expired::All];
-            all.extend(each.map(|expired| Work::Fill { shape, expired }));
+            rest.extend(each.map(|expired| Task::Fill { shape, expired }));
         }
-        all.extend(shapes.map(|shape| Work::SecondFill { shape }));
-        all.extend(shapes.map(|shape| Work::RolledBack { shape }));
-        all.extend([8, 32].map(|slots| Work::Join { slots }));
-        all.extend([16, 128].map(|accounts| Work::Remove { accounts }));
-        all
+        rest.extend(SHAPES.map(|shape| Task::SecondFill { shape }));
+        rest.extend(SHAPES.map(|shape| Task::RolledBack { shape }));
+        rest.extend([8, 32].map(|slots| Task::Join { slots }));
+        rest.extend([16, 128].map(|accounts| Task::Remove { accounts }));
+        adds.chain(rest.into_iter().map(|task| (FULL, task)))
+            .map(|(size, task)| Work { size, task })
+            .collect()
     }
 }
 
@@ -93,12 +124,13 @@ impl fmt::Display for Shape {
 
 impl fmt::Display for Work {
     fn fmt(&self, f: &mut fmt::Formatter<'_>) -> fmt::Result {
-        match self {
-            Work::Add { accounts, inside } => {
-                let place = if *inside { "inside" } else { "outside" };
-                write!(f, "add, {accounts} accounts, {place} a transaction")
+        let held = self.size.accounts;
+        match self.task {
+            Task::Add { inside } => {
+                let place = if inside { "inside" } else { "outside" };
+                write!(f, "add, {held} accounts, {place} a transaction")
             }
-            Work::Fill { shape, expired } => {
+            Task::Fill { shape, expired } => {
                 let filter = match expired {
                     Expired::Off => "filter off",
                     Expired::Nobody => "filter on, no external expired",
@@ -107,10 +139,10 @@ impl fmt::Display for Work {
                 };
                 write!(f, "fill {shape}, {filter}")
             }
-            Work::SecondFill { shape } => write!(f, "fill {shape} of a filled group"),
-            Work::RolledBack { shape } => write!(f, "begin, fill {shape}, rollback"),
-            Work::Join { slots } => write!(f, "join, 2 x {slots} slots"),
-            Work::Remove { accounts } => write!(f, "remove {accounts} of {ACCOUNTS} accounts"),
+            Task::SecondFill { shape } => write!(f, "fill {shape} of a filled group"),
+            Task::RolledBack { shape } => write!(f, "begin, fill {shape}, rollback"),
+            Task::Join { slots } => write!(f, "join, 2 x {slots} slots"),
+            Task::Remove { accounts } => write!(f, "remove {accounts} of {held} accounts"),
         }
     }
 }
@@ -135,11 +167,4 @@ pub fn internal(i: u64, accounts: u64, first: u64) -> Record {
         account: first + message.account,
         ..message
     }
-}
-
-/// The nanoseconds that a call takes, and what it makes.
-pub fn timed<T>(call: impl FnOnce() -> T) -> (u64, T) {
-    let start = Instant::now();
-    let made = call();
-    (start.elapsed().as_nanos() as u64, made)
 }
