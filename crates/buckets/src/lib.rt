@@ -5,10 +5,9 @@ ghost use mathlib.Core.Path.{_≡_};
 ghost use Prim.Native.Nat.{_<_};
 ghost use lib.ListN.{length, getD, take};
 ghost use Rattle.rules.specs.World.{isNil, joined};
-ghost use Rattle.rules.specs.Fill.{reindexed, listedToo};
 ghost use Rattle.rules.specs.Fill as rules;
 ghost use Rattle.buckets.specs.Cells.{mark, bucketOf, index, GoodBuckets};
-ghost use Rattle.buckets.specs.Moves.{Plain, slotsOf, Leaves, putLast, takenOut, movedOn, MayPut, MayReindex, MayList};
+ghost use Rattle.buckets.specs.Moves.{Plain, Leaves, putLast, takenOut, MayPut};
 
 // No entry. 0 and 65,535 are slot numbers.
 pub const NONE: u32 = 65536;
@@ -91,60 +90,4 @@ pub fn none_below(buckets: [u32; 1088], height: usize) -> bool
         c += 1;
     }
     true
-}
-
-// A slot goes from bucket `old` to bucket `new`, and stays listed in the old one too unless another left it before.
-fn moved(buckets: [u32; 1088], old: usize, new: usize, number: SlotId, again: bool) -> [u32; 1088]
-    requires { ⌜ MayPut buckets new (number .0) × (old < 17) ⌝ }
-    ensures { λ r. ⌜ Leaves (movedOn old new (number .0) again (index buckets)) r ⌝ }
-{
-    let put = put_last(buckets, new, number);
-    if again {
-        take_out(put, old, number)
-    } else {
-        put
-    }
-}
-
-// The index after a fill, of n slots by rising number with their counts before it and after it.
-pub fn reindex(
-    buckets: [u32; 1088],
-    numbers: &[u16],
-    olds: &[u8],
-    news: &[u8],
-    n: usize,
-) -> [u32; 1088]
-    requires { ⌜ MayReindex buckets (now numbers) (now olds) (now news) n ⌝ }
-    ensures { λ r.
-        ⌜ Leaves (reindexed Plain (slotsOf (now (numbers .entry)) (now (olds .entry)) n) (slotsOf (now (numbers .entry)) (now (news .entry)) n) 0 (index buckets)) r ⌝ }
-{
-    let mut made = buckets;
-    let mut left = [0u8; 17];
-    let mut i: usize = 0;
-    while i < n {
-        let old = numbers::wide8(olds[i]);
-        let new = numbers::wide8(news[i]);
-        if old != new {
-            let next = moved(made, old, new, SlotId(numbers[i]), left[old] == 1);
-            made = next;
-            left[old] = 1;
-        }
-        i += 1;
-    }
-    made
-}
-
-// The index after a join, of n new slots by rising number with their counts.
-pub fn list_new(buckets: [u32; 1088], numbers: &[u16], counts: &[u8], n: usize) -> [u32; 1088]
-    requires { ⌜ MayList buckets (now numbers) (now counts) n ⌝ }
-    ensures { λ r. ⌜ Leaves (listedToo Plain (slotsOf (now (numbers .entry)) (now (counts .entry)) n) 0 (index buckets)) r ⌝ }
-{
-    let mut made = buckets;
-    let mut i: usize = 0;
-    while i < n {
-        let next = put_last(made, numbers::wide8(counts[i]), SlotId(numbers[i]));
-        made = next;
-        i += 1;
-    }
-    made
 }

@@ -28,7 +28,7 @@ fn add_slots(
     let ids = *number;
     let end = held + n;
     let cells = *buckets;
-    let made = buckets::list_new(cells, &ids[held..end], &counts, n);
+    let made = indexing::list_new(cells, &ids[held..end], &counts, n);
     *buckets = made;
 }
 

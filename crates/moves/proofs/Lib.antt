@@ -1,7 +1,6 @@
 -- The laws behind the proofs of the routines, and what other crates cite: that a check, passing over and a move keep columns well formed and
--- the queues chained.
+-- the queues chained; and what a walk along a chain keeps.
 pub mod Counts
 pub mod Branches
 pub mod Chains
-pub mod Takes
 pub mod Keeps

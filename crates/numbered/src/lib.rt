@@ -73,7 +73,7 @@ fn judge_all(
 {
     let mut mark = [0u8; 1280];
     let mut cost = [default; 1280];
-    entry::judge_order(
+    judging::judge_order(
         order,
         places,
         set,
@@ -86,7 +86,7 @@ fn judge_all(
         &mut mark,
         &mut cost,
     );
-    entry::judge_group(
+    judging::judge_group(
         group,
         members,
         member,
@@ -116,10 +116,10 @@ fn rows_of(
     ensures { λ r. ⌜ r ≡ rowsW filter (held (now (owner .entry)) (now (kind .entry)) (now (time .entry)) n) ⌝ }
 {
     let mut owned = [0u16; 1024];
-    entry::own(owner, n, &mut owned);
+    planning::own(owner, n, &mut owned);
     let mut plan = [1024u16; 2304];
-    entry::classify(kind, time, filter, n, &mut plan);
-    entry::link(owner, n, &mut plan);
+    planning::classify(kind, time, filter, n, &mut plan);
+    planning::link(owner, n, &mut plan);
     Rows { owner: owned, plan }
 }
 

@@ -1,15 +1,15 @@
-// The first pass of a fill on lent columns of numbers, with its waiting line. `number` holds the slots' numbers by position.
+// The first pass of a fill on lent columns of numbers: slots are opened, and then the waiting line is served. `number` holds the slots' numbers by
+// position.
 ghost use mathlib.Core.Path.{_≡_};
 ghost use mathlib.Core.List.{[]};
-ghost use Prim.Native.Nat.{ℕ, _+_, _-_, _<_, _≤_};
-ghost use lib.ListN.{length, getD, take};
+ghost use Prim.Native.Nat.{_+_, _<_, _≤_};
+ghost use lib.ListN.{length};
 ghost use Rattle.meaning.specs.Meaning.{columns};
 ghost use Rattle.meaning.specs.Walks.{Ready, walk};
-ghost use Rattle.meaning.specs.Passes.{lineIn, waits, positionFrom, passedC, ranC, serveC, firstC, secondC, runC};
+ghost use Rattle.meaning.specs.Passes.{passedC, firstC};
 use moves::Fixed;
 use moves::Tally;
 use numbers::SlotId;
-use walks::Walk;
 
 // Where the first pass stopped: the next place, the counts, how many slots there are, and the last number given.
 pub struct Passed {
@@ -17,74 +17,6 @@ pub struct Passed {
     pub tally: Tally,
     pub slots: usize,
     pub last: SlotId,
-}
-
-// Whether a slot waits and an account is left to be met.
-fn waiting(at: usize, places: usize, head: usize, back: usize) -> bool
-    ensures { λ r. ⌜ r ≡ waits at places head back ⌝ }
-{
-    if at < places {
-        return head < back;
-    }
-    false
-}
-
-// Serves the waiting line, which stands in `line` up to `tail`, from its front: a slot that got an account and still has room joins it again.
-fn serve(
-    owner: &mut [u16; 1024],
-    plan: &[u16; 2304],
-    taken: &mut [u16; 1024],
-    home: &mut [u8; 1280],
-    member: &mut [u16; 1280],
-    ints: &mut [u8; 64],
-    exts: &mut [u8; 64],
-    mark: &mut [u8; 1280],
-    cost: &[u64; 1280],
-    joined: &mut [u16; 1280],
-    line: &mut [u8; 320],
-    fixed: Fixed,
-    tail: usize,
-    from: usize,
-    tally: Tally,
-) -> Walk
-    requires { ⌜ Ready fixed (now plan) (now cost) (columns (now owner) (now taken) (now home) (now member) (now ints) (now exts) (now mark) (now joined) tally) ⌝ }
-    requires { ⌜ (length (now line) ≡ 320) × (tail ≤ 64 + from) ⌝ }
-    requires { ⌜ ((i : ℕ) → i < tail → getD (now line) i 0 < 64) ⌝ }
-    ensures { λ r. ⌜ walk (r .at) (columns (now (owner .exit)) (now (taken .exit)) (now (home .exit)) (now (member .exit)) (now (ints .exit)) (now (exts .exit)) (now (mark .exit)) (now (joined .exit)) (r .tally)) ≡ serveC (now (plan .entry)) (now (cost .entry)) fixed (lineIn (now (line .entry)) 0 tail) (fixed .places - from) from (columns (now (owner .entry)) (now (taken .entry)) (now (home .entry)) (now (member .entry)) (now (ints .entry)) (now (exts .entry)) (now (mark .entry)) (now (joined .entry)) tally) ⌝ }
-{
-    let mut head: usize = 0;
-    let mut back = tail;
-    let mut at = from;
-    let mut now = tally;
-    while waiting(at, fixed.places, head, back) {
-        let slot = numbers::wide8(line[head]);
-        let moved = walks::moving(home, mark, at);
-        now = walks::meet(
-            owner,
-            plan,
-            taken,
-            home,
-            member,
-            ints,
-            exts,
-            mark,
-            cost,
-            joined,
-            fixed,
-            at,
-            slot,
-            now,
-        );
-        at += 1;
-        if moved {
-            head += 1;
-            if !walks::full(ints, exts, slot, fixed.height) {
-                line[back] = slot as u8;
-                back += 1;
-            }
-        }
-    }
-    Walk { at, tally: now }
 }
 
 // The first pass: `opens` slots are to be opened behind the `slots` that stand, with the numbers behind the last; each is sought an account, and
@@ -148,7 +80,7 @@ pub fn first(
                 last: SlotId(id as u16),
             };
         }
-        if !walks::full(ints, exts, slot, fixed.height) {
+        if !meeting::full(ints, exts, slot, fixed.height) {
             line[tail] = slot as u8;
             tail += 1;
         }
@@ -156,7 +88,7 @@ pub fn first(
         given = id;
         left -= 1;
     }
-    let w = serve(
+    let w = serving::serve(
         owner,
         plan,
         taken,

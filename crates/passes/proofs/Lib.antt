@@ -1,2 +1,2 @@
--- The laws behind the proofs of the routines.
-pub mod Steps
+-- The laws behind the proof of the run.
+pub mod Keeps

@@ -1,19 +1,15 @@
-// The passes of a fill on lent columns of numbers: the second pass, the end, and `run`, which is the first pass (crate `openings`) and these,
-// all of it between the entry of a fill and the update of the index. `number` holds the slots' numbers by position; `listed` the numbers of the
-// slots that the index lists below the height, in its order.
+// The passes of a fill on lent columns of numbers: `run` is the first pass (crate `openings`), the second (crate `second_pass`) and the end (crate
+// `ending`), all of it between the entry of a fill and the update of the index. `number` holds the slots' numbers by position; `listed` the
+// numbers of the slots that the index lists below the height, in its order.
 ghost use mathlib.Core.Path.{_≡_};
-ghost use mathlib.Core.List.{[]};
-ghost use Prim.Native.Nat.{ℕ, _+_, _-_, _<_, _≤_};
-ghost use lib.ListN.{length, getD, take};
+ghost use Prim.Native.Nat.{_+_, _≤_};
+ghost use lib.ListN.{length, take};
 ghost use Rattle.meaning.specs.Meaning.{columns};
-ghost use Rattle.meaning.specs.Walks.{Ready, walk};
-ghost use Rattle.meaning.specs.Passes.{lineIn, waits, positionFrom, passedC, ranC, serveC, firstC, secondC, runC};
+ghost use Rattle.meaning.specs.Walks.{Ready};
+ghost use Rattle.meaning.specs.Passes.{ranC, runC};
 use moves::Fixed;
 use moves::Tally;
 use numbers::SlotId;
-use walks::Walk;
-
-mod end;
 
 // What a run leaves besides the columns.
 pub struct Ran {
@@ -22,81 +18,6 @@ pub struct Ran {
     pub last: SlotId,
     pub dropped: usize,
 }
-
-// ---- the second pass
-
-// The position of a slot among the first `slots`, or `slots` if it is not there.
-pub fn position_of(number: &[u16; 64], slots: usize, id: SlotId) -> usize
-    requires { ⌜ (slots ≤ 64) × (length (now number) ≡ 64) ⌝ }
-    ensures { λ r. ⌜ r ≡ positionFrom (now (number .entry)) (id .0) slots 0 ⌝ }
-{
-    let x = id.0;
-    let mut slot: usize = 0;
-    while slot < slots {
-        if number[slot] == x {
-            return slot;
-        }
-        slot += 1;
-    }
-    slot
-}
-
-// The second pass: a visit to each of the `count` slots listed that stood at entry, where there were `entry` slots.
-fn second(
-    owner: &mut [u16; 1024],
-    plan: &[u16; 2304],
-    taken: &mut [u16; 1024],
-    home: &mut [u8; 1280],
-    member: &mut [u16; 1280],
-    ints: &mut [u8; 64],
-    exts: &mut [u8; 64],
-    mark: &mut [u8; 1280],
-    cost: &[u64; 1280],
-    joined: &mut [u16; 1280],
-    number: &[u16; 64],
-    listed: &[u16; 1024],
-    fixed: Fixed,
-    count: usize,
-    entry: usize,
-    from: usize,
-    tally: Tally,
-) -> Walk
-    requires { ⌜ Ready fixed (now plan) (now cost) (columns (now owner) (now taken) (now home) (now member) (now ints) (now exts) (now mark) (now joined) tally) ⌝ }
-    requires { ⌜ (entry ≤ 64) × (count ≤ 1024) ⌝ }
-    requires { ⌜ (length (now number) ≡ 64) × (length (now listed) ≡ 1024) ⌝ }
-    ensures { λ r. ⌜ walk (r .at) (columns (now (owner .exit)) (now (taken .exit)) (now (home .exit)) (now (member .exit)) (now (ints .exit)) (now (exts .exit)) (now (mark .exit)) (now (joined .exit)) (r .tally)) ≡ secondC (now (plan .entry)) (now (cost .entry)) fixed (now (number .entry)) entry (take count (now (listed .entry))) from (columns (now (owner .entry)) (now (taken .entry)) (now (home .entry)) (now (member .entry)) (now (ints .entry)) (now (exts .entry)) (now (mark .entry)) (now (joined .entry)) tally) ⌝ }
-{
-    let mut i: usize = 0;
-    let mut at = from;
-    let mut now = tally;
-    while i < count {
-        let slot = position_of(number, entry, SlotId(listed[i]));
-        if slot < entry {
-            let w = walks::visit(
-                owner,
-                plan,
-                taken,
-                home,
-                member,
-                ints,
-                exts,
-                mark,
-                cost,
-                joined,
-                fixed,
-                slot,
-                at,
-                now,
-            );
-            at = w.at;
-            now = w.tally;
-        }
-        i += 1;
-    }
-    Walk { at, tally: now }
-}
-
-// ---- all of it
 
 // A fill between its entry and the update of the index.
 pub fn run(
@@ -143,7 +64,7 @@ pub fn run(
         tally,
     );
     let opened = a.tally;
-    let w = second(
+    let w = second_pass::second(
         owner,
         plan,
         taken,
@@ -163,8 +84,8 @@ pub fn run(
         opened,
     );
     let visited = w.tally;
-    end::sweep(owner, plan, fixed.rows, w.at, fixed.places);
-    let e = end::finish(owner, fixed, visited);
+    ending::sweep(owner, plan, fixed.rows, w.at, fixed.places);
+    let e = ending::finish(owner, fixed, visited);
     let counts = e.tally;
     let given = a.last;
     Ran {

@@ -60,7 +60,7 @@ fn renumber(
     let news = joins::join::counts_of(64, &inside, &outside);
     let ids = number;
     let cells = *buckets2;
-    let made = buckets::reindex(cells, &ids, &olds, &news, slots);
+    let made = indexing::reindex(cells, &ids, &olds, &news, slots);
     *buckets2 = made;
     *number2 = ids;
     *ints2 = inside;

@@ -2,7 +2,7 @@
 -- Assumes nothing.
 use mathlib.Core.Path.{_∙_}
 use native.Mathlib.Omega.{arith}
-use Rattle.entry.proofs.Judging.{party-seated, party-own}
+use Rattle.entry.proofs.Parties.{party-seated, party-own}
 use borrow.Author.Needs.{needs}
 use Prim.Native.Nat.{_-_}
 use mathlib.Core.Logic.{⊎-elim}

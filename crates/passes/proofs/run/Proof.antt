@@ -2,7 +2,7 @@
 use mathlib.Core.Path.{_∙_}
 use native.Mathlib.Omega.{arith}
 use lib.ListN.{take}
-use Rattle.passes.proofs.Steps.{ran-ready, ran-long, ran-both, swept-long, swept-left, ran}
+use Rattle.passes.proofs.Keeps.{ran-ready, ran-long, ran-both, swept-long, swept-left, ran}
 use Rattle.passes.proofs.run.Statement.{statement}
 use Rattle.passes.proofs.run.Tie as tie
 

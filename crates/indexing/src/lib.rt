@@ -1,0 +1,62 @@
+// The bucket index brought up to date: after a fill, by the slots whose count changed, and after a join, by the slots that are new.
+use numbers::SlotId;
+ghost use Prim.Native.Nat.{_<_};
+ghost use Rattle.rules.specs.Fill.{reindexed, listedToo};
+ghost use Rattle.buckets.specs.Cells.{index};
+ghost use Rattle.buckets.specs.Moves.{Plain, slotsOf, Leaves, movedOn, MayPut, MayReindex, MayList};
+
+// A slot goes from bucket `old` to bucket `new`, and stays listed in the old one too unless another left it before.
+fn moved(buckets: [u32; 1088], old: usize, new: usize, number: SlotId, again: bool) -> [u32; 1088]
+    requires { ⌜ MayPut buckets new (number .0) × (old < 17) ⌝ }
+    ensures { λ r. ⌜ Leaves (movedOn old new (number .0) again (index buckets)) r ⌝ }
+{
+    let put = buckets::put_last(buckets, new, number);
+    if again {
+        buckets::take_out(put, old, number)
+    } else {
+        put
+    }
+}
+
+// The index after a fill, of n slots by rising number with their counts before it and after it.
+pub fn reindex(
+    buckets: [u32; 1088],
+    numbers: &[u16],
+    olds: &[u8],
+    news: &[u8],
+    n: usize,
+) -> [u32; 1088]
+    requires { ⌜ MayReindex buckets (now numbers) (now olds) (now news) n ⌝ }
+    ensures { λ r.
+        ⌜ Leaves (reindexed Plain (slotsOf (now (numbers .entry)) (now (olds .entry)) n) (slotsOf (now (numbers .entry)) (now (news .entry)) n) 0 (index buckets)) r ⌝ }
+{
+    let mut made = buckets;
+    let mut left = [0u8; 17];
+    let mut i: usize = 0;
+    while i < n {
+        let old = numbers::wide8(olds[i]);
+        let new = numbers::wide8(news[i]);
+        if old != new {
+            let next = moved(made, old, new, SlotId(numbers[i]), left[old] == 1);
+            made = next;
+            left[old] = 1;
+        }
+        i += 1;
+    }
+    made
+}
+
+// The index after a join, of n new slots by rising number with their counts.
+pub fn list_new(buckets: [u32; 1088], numbers: &[u16], counts: &[u8], n: usize) -> [u32; 1088]
+    requires { ⌜ MayList buckets (now numbers) (now counts) n ⌝ }
+    ensures { λ r. ⌜ Leaves (listedToo Plain (slotsOf (now (numbers .entry)) (now (counts .entry)) n) 0 (index buckets)) r ⌝ }
+{
+    let mut made = buckets;
+    let mut i: usize = 0;
+    while i < n {
+        let next = buckets::put_last(made, numbers::wide8(counts[i]), SlotId(numbers[i]));
+        made = next;
+        i += 1;
+    }
+    made
+}

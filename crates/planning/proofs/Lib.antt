@@ -1,0 +1,2 @@
+-- The law behind the proof of the chains.
+pub mod Linking

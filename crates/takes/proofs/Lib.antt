@@ -1,0 +1,2 @@
+-- The law behind the proof of a take.
+pub mod Takes

@@ -1,0 +1,2 @@
+-- The laws behind the proofs of the routines.
+pub mod Steps
