@@ -4,7 +4,7 @@ use Prim.Native.Nat.{ℕ}
 use Rattle.message.specs.declared.Filter.{Filter}
 use Rattle.entry.specs.Entry.{Sayings}
 use Rattle.numbered.specs.Begin.{Accounts, Held, Slots, beginW}
-use Rattle.numbered.specs.Run.{MayRun, Runs, runW}
+use Rattle.numbered.specs.Run.{MayRun, runW}
 use Rattle.works.specs.Works.{ranW}
 use Rattle.works.specs.declared.Work.{Work}
 use Rattle.works.specs.declared.Done.{Done}
@@ -15,5 +15,5 @@ module _ {a : Accounts} {h : Held} {b : Slots} {s : Sayings} {f : Filter} {heigh
   pub may-run : MayRun w (fixedBy a h height) opens slots last (tallyBy a)
   may-run = subst (λ (x : Work). MayRun x (fixedBy a h height) opens slots last (tallyBy a)) (sym e) (p .runs)
 
-  pub ran : (d : Done) → Runs w (fixedBy a h height) opens slots last (tallyBy a) d → ranW d ≡ passW a h b s f height opens slots last
-  ran d r = r .ran ∙ ap (λ (x : Work). runW x (fixedBy a h height) opens slots last (tallyBy a)) e
+  pub ran : (d : Done) → ranW d ≡ runW w (fixedBy a h height) opens slots last (tallyBy a) → ranW d ≡ passW a h b s f height opens slots last
+  ran d r = r ∙ ap (λ (x : Work). runW x (fixedBy a h height) opens slots last (tallyBy a)) e

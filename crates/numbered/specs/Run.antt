@@ -8,8 +8,7 @@ use Rattle.moves.specs.declared.Fixed.{Fixed}
 use Rattle.meaning.specs.Walks.{Ready}
 use Rattle.meaning.specs.Passes.{RanC, runC}
 use Rattle.works.specs.declared.Work.{Work}
-use Rattle.works.specs.declared.Done.{Done}
-use Rattle.works.specs.Works.{columnsW, ranW}
+use Rattle.works.specs.Works.{columnsW}
 
 -- `opens` slots more have room, and numbers
 pub record MayRun (w : Work) (f : Fixed) (opens slots last : ℕ) (t : Tally) : Type 0 where
@@ -22,11 +21,3 @@ pub record MayRun (w : Work) (f : Fixed) (opens slots last : ℕ) (t : Tally) : 
 
 abbrev pub runW : Work → Fixed → (opens slots last : ℕ) → Tally → RanC
 runW w f opens slots last t = runC (w .plan) (w .cost) f opens (take (w .count) (w .listed)) (w .number) slots last (columnsW w t)
-
--- a run leaves the other columns as they are
-pub record Runs (w : Work) (f : Fixed) (opens slots last : ℕ) (t : Tally) (d : Done) : Type 0 where
-  pub ran : ranW d ≡ runW w f opens slots last t
-  pub plan-stays : d .work .plan ≡ w .plan
-  pub cost-stays : d .work .cost ≡ w .cost
-  pub listed-stays : d .work .listed ≡ w .listed
-  pub count-stays : d .work .count ≡ w .count

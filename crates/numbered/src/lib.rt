@@ -6,12 +6,14 @@ ghost use lib.ListN.{length};
 ghost use Rattle.buckets.specs.Cells.{GoodBuckets};
 ghost use Rattle.entry.specs.Entry.{sayings, Spoken};
 ghost use Rattle.numbered.specs.Begin.{accounts, held, slots as slotsOf, FitAccounts, FitRows, Fit, homesW, judgedBy, rowsW, worksW, beginW};
-ghost use Rattle.numbered.specs.Run.{MayRun, Runs};
+ghost use Rattle.numbered.specs.Run.{MayRun, runW};
+ghost use Rattle.works.specs.Works.{ranW};
 use message::Filter;
 use moves::Fixed;
 use moves::Tally;
 use numbers::SlotId;
 use works::Done;
+use works::Left;
 use works::Work;
 
 // The group's accounts as parties, and the parties' homes.
@@ -221,7 +223,7 @@ pub fn begin(
 // A fill between its entry and its end: `opens` slots are to be opened behind the `slots` that stand, with the numbers behind the last.
 pub fn run(work: Work, fixed: Fixed, opens: usize, slots: usize, last: SlotId, tally: Tally) -> Done
     requires { ⌜ MayRun work fixed opens slots (last .0) tally ⌝ }
-    ensures { λ r. ⌜ Runs work fixed opens slots (last .0) tally r ⌝ }
+    ensures { λ r. ⌜ ranW r ≡ runW work fixed opens slots (last .0) tally ⌝ }
 {
     let mut owner = work.owner;
     let plan = work.plan;
@@ -231,7 +233,6 @@ pub fn run(work: Work, fixed: Fixed, opens: usize, slots: usize, last: SlotId, t
     let mut ints = work.ints;
     let mut exts = work.exts;
     let mut mark = work.mark;
-    let cost = work.cost;
     let mut joined = work.joined;
     let mut number = work.number;
     let listed = work.listed;
@@ -245,7 +246,7 @@ pub fn run(work: Work, fixed: Fixed, opens: usize, slots: usize, last: SlotId, t
         &mut ints,
         &mut exts,
         &mut mark,
-        &cost,
+        &work.cost,
         &mut joined,
         &mut number,
         &listed,
@@ -259,20 +260,16 @@ pub fn run(work: Work, fixed: Fixed, opens: usize, slots: usize, last: SlotId, t
     let counts = ran.tally;
     let given = ran.last;
     Done {
-        work: Work {
+        left: Left {
             owner,
-            plan,
             taken,
             home,
             member,
             ints,
             exts,
             mark,
-            cost,
             joined,
             number,
-            listed,
-            count,
         },
         tally: counts,
         slots: ran.slots,

@@ -97,14 +97,14 @@ fn settle_group(
     requires { ⌜ ints ≡ internalsOf (now kind) (ranW done) ⌝ }
     ensures { λ _. ⌜ TableSettled (table (now (number2 .entry)) (now (ints2 .entry)) (now (exts2 .entry)) (now (accounts2 .entry)) (now (home2 .entry)) (now (owner2 .entry)) (now (kind2 .entry)) (now (form2 .entry)) (now (time2 .entry)) (now (address2 .entry)) (now (hash2 .entry)) (now (buckets2 .entry)) (now (numbers2 .entry))) (table (now (number2 .exit)) (now (ints2 .exit)) (now (exts2 .exit)) (now (accounts2 .exit)) (now (home2 .exit)) (now (owner2 .exit)) (now (kind2 .exit)) (now (form2 .exit)) (now (time2 .exit)) (now (address2 .exit)) (now (hash2 .exit)) (now (buckets2 .exit)) (now (numbers2 .exit))) (from (now (kind .entry)) (now (form .entry)) (now (time .entry)) (now (address .entry)) (now (hash .entry)) (now (accounts .entry))) (ranW done) opens noSeats ⌝ }
 {
-    let work = done.work;
+    let run = done.left;
     let tally = done.tally;
     let n = tally.taken;
     let members = tally.accounts;
-    let left = work.owner;
-    let taken = work.taken;
-    let member = work.member;
-    let home = work.home;
+    let left = run.owner;
+    let taken = run.taken;
+    let member = run.member;
+    let home = run.home;
     let first = numbers2[2] as usize;
     let at = numbers2[3] as usize;
     take_rows(
@@ -135,9 +135,9 @@ fn settle_group(
         accounts2,
         home2,
     );
-    let number = work.number;
-    let inside = work.ints;
-    let outside = work.exts;
+    let number = run.number;
+    let inside = run.ints;
+    let outside = run.exts;
     renumber(
         done.slots,
         number,
@@ -176,10 +176,10 @@ fn tell(
     requires { ⌜ MayTell (now kind) (length (now time)) (length (now hash)) (length (now accounts)) (length (now accounts2)) (ranW done) (length (now set)) (now held) (length (now lts)) (length (now hashes)) ⌝ }
     ensures { λ r. ⌜ Told (now (kind .entry)) (now (time .entry)) (now (hash .entry)) (now (accounts .entry)) (now (accounts2 .entry)) (ranW done) (now (set .entry)) (now (set .exit)) (now (held .entry)) (now (held .exit)) (now (lts .entry)) (now (lts .exit)) (now (hashes .entry)) (now (hashes .exit)) r ⌝ }
 {
-    let work = done.work;
+    let run = done.left;
     let tally = done.tally;
-    let taken = work.taken;
-    let joined = work.joined;
+    let taken = run.taken;
+    let joined = run.joined;
     let ints = settle::keys(&taken, tally.taken, kind, time, hash, lts, hashes);
     let k = *held;
     settle::join_set(&joined, tally.joined, accounts, accounts2, set, k);
@@ -256,8 +256,8 @@ pub fn settle(
         buckets2,
         numbers2,
     );
-    let work = done.work;
-    let left = work.owner;
+    let run = done.left;
+    let left = run.owner;
     settle::settle_buffer(
         &left,
         owner,

@@ -21,9 +21,22 @@ pub struct Work {
     pub count: usize,
 }
 
+// Of those columns the ones that a run changes, and the slots' numbers: what the end of a fill needs, and no more is copied.
+pub struct Left {
+    pub owner: [u16; 1024],
+    pub taken: [u16; 1024],
+    pub home: [u8; 1280],
+    pub member: [u16; 1280],
+    pub ints: [u8; 64],
+    pub exts: [u8; 64],
+    pub mark: [u8; 1280],
+    pub joined: [u16; 1280],
+    pub number: [u16; 64],
+}
+
 // What a run leaves: the columns, the counts, how many slots there are, the last number given, and how many messages were dropped.
 pub struct Done {
-    pub work: Work,
+    pub left: Left,
     pub tally: Tally,
     pub slots: usize,
     pub last: SlotId,
