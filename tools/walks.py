@@ -304,11 +304,11 @@ TELLS = {'struct': 'mut', 'mut-array': 'mut', 'array': 'shr', 'mut-slice': 'mut-
 COPY = {'array': 'shr-copy', 'slice': 'shr-slice-copy'}
 
 
-def walk(crate, fn, core, params, result, did, says='e', req=None, core_req='pre', uses=''):
-    """fn: the export. core: the path of its core. result: the width of what they return. did: what the core ensures, over r, the parameters, the
-    last value of a field f that b lends (b·f) and of a parameter x that the core changes (x·last). says: a proof of the export's ensures from
-    e : did and, if something is required, pre : req. core_req: a proof of what the core requires from pre; None where it
-    requires nothing."""
+def walk(crate, fn, core, params, result, did, says='e', req=None, core_req='pre', uses='', home=None):
+    """fn: the export. core: the path of its core, in the crate home or else in the export's own. result: the width of what they return. did: what
+    the core ensures, over r, the parameters, the last value of a field f that b lends (b·f) and of a parameter x that the core changes (x·last).
+    says: a proof of the export's ensures from e : did and, if something is required, pre : req. core_req: a proof of what the core requires from
+    pre; None where it requires nothing."""
     held = [p for p in params if p.held]
     refs = [p for p in params if p.kind == 'struct']
     count = len(held)
@@ -373,21 +373,22 @@ def walk(crate, fn, core, params, result, did, says='e', req=None, core_req='pre
         return 'record { ' + '; '.join('%s = %s' % (f.name, of.get(f.name, '%s .%s' % (p.name, f.name))) for f in p.struct.fields) + ' }'
 
     f_name = fn.replace('_', '-')
-    symbol = '·'.join([crate] + core.split('.')).replace('_', '-')
+    symbol = '·'.join([home or crate] + core.split('.')).replace('_', '-')
     here = 'Rattle.%s.proofs' % crate
+    there = ('Rattle.%s.proofs' % home if home else here) + '.' + core
     pre, pre_type = ('pre ', 'Req → ') if req else ('', '')
     asks, asks_type = ('pre ', 'Req → ') if req and core_req else ('', '')
     out = []
     A = out.append
     A(f'''-- `{fn}` meets its contract: a walk of its code. Each struct is taken apart, what it lends goes to
--- `{core.replace('.', '::')}` for lifetimes of the call and comes back, and the struct is put together. Of the core it knows the contract alone.
+-- `{'::'.join(([home] if home else []) + core.split('.'))}` for lifetimes of the call and comes back, and the struct is put together. Of the core it knows the contract alone.
 -- Written by tools/walks.py. Assumes nothing.''')
     A(USES % dict(widths=', '.join(WIDTH[w] for w in widths), rows=', '.join('u%d' % w for w in widths)))
     if uses:
         A(uses.strip())
     for s in structs:
         A(f'use Rattle.{crate}.specs.declared.{s.name}.{{{s.name}}}\nuse {here}.{s.name} as {s.name}\nuse {here}.{s.name}Apart.{{Back as {s.name}Back, {s.low}-apart, {s.low}-together}}')
-    A(f'use {here}.{core} as core\nuse {here}.{core}.Symbol as core-def\nuse {here}.{core}.Symbol.{{name as #core}}\nuse {here}.{core}.Met as core-thm')
+    A(f'use {there} as core\nuse {there}.Symbol as core-def\nuse {there}.Symbol.{{name as #core}}\nuse {there}.Met as core-thm')
     A(f'use {here}.{fn}.Key.{{name as #export}}\nuse {here}.{fn} as f\nuse {here}.{fn}.Statement as stated\nuse {here}.{fn}.Code as code\n')
     stays = lambda p: '%s (%d ∷ []) tt (plain (λ _. %s))%s' % (STAY[p.kind], index[p], p.row, '' if p.kind == 'struct' or p.changes else ' yes') if p.held else 'stay-none (λ _. %s) yes' % p.row
     A(f'abbrev stayed : Stays (f.ended .signature .params) (f.ended .kept)\nstayed = {pair([stays(p) for p in params])}\n')
@@ -830,22 +831,25 @@ GROUP = Struct('Group', [
     Field('owner', 16, 1024), Field('kind', 8, 1024), Field('form', 8, 1024), Field('time', 64, 1024),
     Field('address', 8, 32768), Field('hash', 8, 32768), Field('buckets', 32, 1088), Field('numbers', 64, 16)])
 GROUP_USES = '''
-use mathlib.Core.Path.{sym, _∙_}
-use lib.Dec.{eqb}
+use mathlib.Core.Path.{_∙_}
 use lib.ListN.{getD}
-use Rattle.display.specs.Line.{lineOf, written}
+use Rattle.display.specs.Line.{written}
 use Rattle.queues.specs.Look.{rowOf}
-use Rattle.group_rules.proofs.GroupLook.{contains-told, filled-told}
-use Rattle.groups.specs.Groups.{lineFor}
-use Rattle.groups.proofs.Looks.{counts-are}
+use Rattle.slots.specs.Table.{table}
+use Rattle.group_rules.proofs.GroupLook.{contains-told}
+use Rattle.group_reads.specs.Shown.{lineFor}
+use Rattle.group_reads.specs.Lent.{countsIn, emptyIn, filledIn, lastIn}
+use Rattle.group_reads.proofs.Looks.{counts-seen, empty-seen, filled-seen, last-seen, displayed}
+use Rattle.group_seen.specs.Lent.{holds, entryIn, idFound, slotFound, accountFound, messageFound, rowFor}
+use Rattle.group_seen.proofs.Looks.{slot-seen, account-seen, slot-account-seen, message-seen, bucket-seen, accounts-in, slots-in, messages-in}
 use Rattle.export_parts.specs.Parts.{bit, Told, ToldMessage}
-use Rattle.export_group.specs.Lent.{table, SetsUp, readAs, listed, holds, filledIn, lastIn, entryIn, idFound, ToldId, ToldSlot, slotFound, accountFound, messageFound, rowFor}
+use Rattle.group_cores.specs.Told.{SetsUp, listed, ToldId, ToldSlot}
+use Rattle.group_cores.proofs.Answers.{same-id, same-slot, same-account, same-message}
 use Rattle.export_group.specs.Held.{tableOf, GoodGroup}
-use Rattle.export_group.proofs.Answers.{empty-told, accounts-in, rows-in, slots-in, messages-in, last-seen, slot-seen, account-seen, slot-account-seen, message-seen, bucket-seen}
 '''
 
 JOIN_USES = '''
-use Rattle.merging.specs.Merges.{table}
+use Rattle.slots.specs.Table.{table}
 use Rattle.export_join.specs.Lent.{Joins}
 use Rattle.export_join.specs.Held.{tableOf, GoodGroup}
 '''
@@ -854,7 +858,7 @@ use Rattle.export_join.specs.Held.{tableOf, GoodGroup}
 def on_group(name, params, result, did, **more):
     """A call on a group; `after` stands for the columns that a call of all columns leaves."""
     after = 'table ' + ' '.join('g·' + f.name for f in GROUP.fields)
-    return dict(fn='lintelsong_group_' + name, core='cores.' + name, params=params, result=result, did=did.replace('after', '(%s)' % after), uses=GROUP_USES, **more)
+    return dict(fn='lintelsong_group_' + name, core=name, home='group_cores', params=params, result=result, did=did.replace('after', '(%s)' % after), uses=GROUP_USES, **more)
 
 
 def group_reads(name, shares, did, says, more=(), result=8, core_req='pre .lengths .numbers'):
@@ -863,7 +867,7 @@ def group_reads(name, shares, did, says, more=(), result=8, core_req='pre .lengt
 
 
 OFFERED = 'messageOf address hash time kind special form'
-SHOWN = 'lineOf (getD (g .numbers) 4 0) (getD (g .numbers) 5 0) (getD (g .numbers) 2 0) (getD (g .numbers) 1 0)'
+SHOWN = 'lineFor (countsIn (g .numbers))'
 ROWS = 'owner kind form time address hash numbers'
 EXPORTS = [
     ('export_buffer', [BUFFER], [
@@ -905,32 +909,31 @@ EXPORTS = [
     ]),
     ('export_group', [GROUP], [
         on_group('set_up', [struct('g', GROUP, 'all'), number('slots', 64)], 8, 'SetsUp slots r after'),
-        group_reads('counts', 'numbers', '(r ≡ 0) × (out·last ≡ readAs (g .numbers))', 'e .0, e .1 ∙ ap listed (sym (counts-are (tableOf g) pre))',
+        group_reads('counts', 'numbers', '(r ≡ 0) × (out·last ≡ listed (countsIn (g .numbers)))', 'e .0, e .1 ∙ ap listed (counts-seen (tableOf g) pre)',
                     [mut_array('out', 64, 6)]),
-        group_reads('is_empty', 'numbers', 'r ≡ bit (eqb (getD (g .numbers) 1 0) 0)', 'e ∙ ap bit (empty-told (tableOf g))'),
+        group_reads('is_empty', 'numbers', 'r ≡ bit (emptyIn (g .numbers))', 'e ∙ ap bit (empty-seen (tableOf g))'),
         group_reads('contains_account', 'accounts numbers', 'r ≡ bit (holds (g .accounts) (g .numbers) name)', 'e ∙ ap bit (contains-told (tableOf g) name)',
-                    [array('name', 8, 32)], core_req='rows-in (tableOf g) pre'),
+                    [array('name', 8, 32)], core_req='accounts-in (tableOf g) pre'),
         group_reads('check_is_filled', 'buckets numbers', 'r ≡ bit (filledIn (g .buckets) (g .numbers) asked height)',
-                    'e ∙ ap bit (sym (filled-told (tableOf g) asked height))', [number('asked', 64), number('height', 64)]),
-        group_reads('last_slot', 'numbers', 'ToldId r out·last (lastIn (g .numbers))', 'last-seen (tableOf g) pre e', [mut_array('out', 16, 1)],
+                    'e ∙ ap bit (filled-seen (tableOf g) asked height)', [number('asked', 64), number('height', 64)]),
+        group_reads('last_slot', 'numbers', 'ToldId r out·last (lastIn (g .numbers))', 'same-id (last-seen (tableOf g) pre) e', [mut_array('out', 16, 1)],
                     core_req='pre .lengths .numbers, pre .last'),
-        group_reads('display', 'numbers', '(r ≡ length (%s)) × (out·last ≡ written (%s) out)' % (SHOWN, SHOWN),
-                    'record { long = e .0 ∙ ap (λ k. length (lineFor k)) (sym (counts-are (tableOf g) pre)); bytes = e .1 ∙ ap (λ k. written (lineFor k) out) (sym (counts-are (tableOf g) pre)) }',
+        group_reads('display', 'numbers', '(r ≡ length (%s)) × (out·last ≡ written (%s) out)' % (SHOWN, SHOWN), 'displayed (tableOf g) pre (e .0) (e .1)',
                     [mut_slice('out', 8)], 64),
         group_reads('slot_at', 'number ints exts numbers', 'ToldSlot r out·last (slotFound (g .number) (g .ints) (g .exts) (g .numbers) position)',
-                    'slot-seen (tableOf g) pre position e', [mut_array('out', 64, 3), number('position', 64)], core_req='slots-in (tableOf g) pre'),
-        group_reads('account_at', 'accounts numbers', 'Told r out·last (accountFound (g .accounts) (g .numbers) k)', 'account-seen (tableOf g) pre k e',
-                    [mut_array('out', 8, 32), number('k', 64)], core_req='rows-in (tableOf g) pre'),
+                    'same-slot (slot-seen (tableOf g) position) e', [mut_array('out', 64, 3), number('position', 64)], core_req='slots-in (tableOf g) pre'),
+        group_reads('account_at', 'accounts numbers', 'Told r out·last (accountFound (g .accounts) (g .numbers) k)',
+                    'same-account (account-seen (tableOf g) k) e', [mut_array('out', 8, 32), number('k', 64)], core_req='accounts-in (tableOf g) pre'),
         group_reads('slot_account_at', 'accounts home numbers',
                     'Told r out·last (accountFound (g .accounts) (g .numbers) (rowOf (g .home) (getD (g .numbers) 2 0) position k))',
-                    'slot-account-seen (tableOf g) pre position k e', [mut_array('out', 8, 32), number('position', 64), number('k', 64)],
-                    core_req='accounts-in (tableOf g) pre'),
+                    'same-account (slot-account-seen (tableOf g) pre position k) e', [mut_array('out', 8, 32), number('position', 64), number('k', 64)],
+                    core_req='accounts-in (tableOf g) pre, pre .lengths .home'),
         group_reads('message_at', 'accounts owner kind form time address hash numbers',
                     'ToldMessage r facts·last address·last hash·last (messageFound (g .kind) (g .form) (g .time) (g .address) (g .hash) (g .numbers)'
-                    ' (rowFor (g .accounts) (g .owner) (g .numbers) name k))', 'message-seen (tableOf g) pre name k e',
+                    ' (rowFor (g .accounts) (g .owner) (g .numbers) name k))', 'same-message (message-seen (tableOf g) pre name k) e',
                     [array('name', 8, 32), mut_array('facts', 64, 4), mut_array('address', 8, 32), mut_array('hash', 8, 32), number('k', 64)],
-                    core_req='rows-in (tableOf g) pre, messages-in (tableOf g) pre'),
-        group_reads('bucket_at', 'buckets', 'ToldId r out·last (idFound (entryIn (g .buckets) count k))', 'bucket-seen (tableOf g) pre count k e',
+                    core_req='accounts-in (tableOf g) pre, messages-in (tableOf g) pre'),
+        group_reads('bucket_at', 'buckets', 'ToldId r out·last (idFound (entryIn (g .buckets) count k))', 'same-id (bucket-seen (tableOf g) pre count k) e',
                     [mut_array('out', 16, 1), number('count', 64), number('k', 64)], core_req='pre .buckets'),
     ]),
     ('export_join', [GROUP], [
@@ -948,7 +951,7 @@ EXPORTS = [
                     ' '.join('b·' + f.name for f in BUFFER.fields), ' '.join('g·' + f.name for f in GROUP.fields)),
             uses='''
 use Rattle.queues.specs.Cols.{cols}
-use Rattle.settle_rules.specs.Settling.{table}
+use Rattle.slots.specs.Table.{table}
 use Rattle.fill_rules.specs.Fills.{callOf, keys, left}
 use Rattle.export_fill.specs.Lent.{filterBy, FillsBy}
 use Rattle.export_fill.specs.Held.{colsOf, tableOf, GoodBuffer, GoodGroup, GoodSet}

@@ -1,10 +1,9 @@
 -- The buffer, the group and the skipped set behind references: their columns, and when they are well formed. Assumes nothing.
 use Rattle.queues.specs.Cols.{Cols, cols}
 use Rattle.queues.specs.Good as queues
-use Rattle.slots.specs.Table.{Table}
+use Rattle.slots.specs.Table.{Table, table}
 use Rattle.slots.specs.Good as slots
 use Rattle.skipped.specs.Sets.{GoodRows}
-use Rattle.settle_rules.specs.Settling.{table}
 use Rattle.export_fill.specs.declared.Buffer.{Buffer}
 use Rattle.export_fill.specs.declared.Group.{Group}
 use Rattle.export_fill.specs.declared.Skipped.{Skipped}

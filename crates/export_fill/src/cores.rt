@@ -4,7 +4,7 @@ ghost use Rattle.queues.specs.Cols.{cols};
 ghost use Rattle.queues.specs.Good.{Good};
 ghost use Rattle.slots.specs.Good.{Good as GroupGood};
 ghost use Rattle.skipped.specs.Sets.{GoodRows};
-ghost use Rattle.settle_rules.specs.Settling.{table};
+ghost use Rattle.slots.specs.Table.{table};
 ghost use Rattle.fill_rules.specs.Fills.{callOf, keys, left};
 ghost use Rattle.export_fill.specs.Lent.{filterBy, FillsBy};
 use message::Filter;

@@ -1,3 +1,2 @@
--- What the proofs share: Answers (what a call gives, and what is read off), GroupApart (a group in memory is its fields).
-pub mod Answers
+-- What the proofs share: a group in memory is its fields.
 pub mod GroupApart

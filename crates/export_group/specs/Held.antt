@@ -1,8 +1,7 @@
 -- The group behind a reference: its columns, and when it is well formed. Assumes nothing.
-use Rattle.slots.specs.Table.{Table}
+use Rattle.slots.specs.Table.{Table, table}
 use Rattle.slots.specs.Good.{Good}
 use Rattle.export_group.specs.declared.Group.{Group}
-use Rattle.export_group.specs.Lent.{table}
 
 abbrev pub tableOf : Group → Table
 tableOf g = table (g .number) (g .ints) (g .exts) (g .accounts) (g .home) (g .owner) (g .kind) (g .form) (g .time) (g .address) (g .hash) (g .buckets) (g .numbers)

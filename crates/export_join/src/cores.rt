@@ -1,6 +1,6 @@
 // A join on lent columns, with its code as a number. The right's columns have a 2.
 ghost use Rattle.slots.specs.Good.{Good};
-ghost use Rattle.merging.specs.Merges.{table};
+ghost use Rattle.slots.specs.Table.{table};
 ghost use Rattle.export_join.specs.Lent.{Joins};
 
 pub fn join(

@@ -1,8 +1,10 @@
-// What the exports share: an array whose length is said, a test as a number, and a message written part by part.
+// What the exports share: an array whose length is said, a test as a number, and an account and a message written out.
 ghost use mathlib.Core.Path.{_≡_};
 ghost use lib.ListN.{length};
-ghost use Rattle.export_parts.specs.Parts.{bit, Tells};
+ghost use Rattle.export_parts.specs.Parts.{bit, Told, Tells, ToldMessage};
 use message::Message;
+use message::SeenAccount;
+use message::SeenMessage;
 
 // An array of 32 bytes as it is, which says how long it is.
 pub fn whole(x: [u8; 32]) -> [u8; 32]
@@ -37,4 +39,27 @@ pub fn tell(m: Message, facts: &mut [u64; 4], to: &mut [u8; 32], hashed: &mut [u
     *to = address;
     let hash = m.hash;
     *hashed = hash;
+}
+
+// Writes an account, and answers whether there is one.
+pub fn tell_account(seen: SeenAccount, out: &mut [u8; 32]) -> u8
+    ensures { λ r. ⌜ Told r (now (out .exit)) seen ⌝ }
+{
+    let account = seen.account;
+    *out = account;
+    bit_of(seen.found)
+}
+
+// Writes the parts of a message, and answers whether there is one.
+pub fn tell_message(
+    seen: SeenMessage,
+    facts: &mut [u64; 4],
+    to: &mut [u8; 32],
+    hashed: &mut [u8; 32],
+) -> u8
+    ensures { λ r. ⌜ ToldMessage r (now (facts .exit)) (now (to .exit)) (now (hashed .exit)) seen ⌝ }
+{
+    let m = seen.message;
+    tell(m, facts, to, hashed);
+    bit_of(seen.found)
 }

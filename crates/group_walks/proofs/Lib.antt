@@ -1,2 +1,1 @@
--- What the proofs of the walks share.
-pub mod Looks
+-- No lemmas: each walk is a law of crate group_seen (Looks).

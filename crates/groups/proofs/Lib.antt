@@ -1,3 +1,2 @@
--- What the proofs of the public calls share: Looks (what is read off), SetUp (both answers of a set-up).
-pub mod Looks
+-- What the proofs of the public calls share: SetUp (both answers of a set-up).
 pub mod SetUp

@@ -1,14 +1,17 @@
-// The group: slots by rising number, each with its accounts, and the accounts' lists of messages in order of collection.
+// The group: slots by rising number, each with its accounts, and the accounts' lists of messages in order of collection. What is read off it
+// is read by crate `group_reads`, on copies of the columns that it needs.
 ghost use mathlib.Core.Path.{_≡_};
 ghost use Rattle.rules.specs.World.{isNil};
-ghost use Rattle.rules.specs.Queues.{has};
 ghost use Rattle.rules.specs.Fill.{isFilled};
 ghost use Rattle.message.specs.Real.{Real};
 ghost use Rattle.slots.specs.Meant.{meant};
 ghost use Rattle.slots.specs.Join.{freshT};
-ghost use Rattle.groups.specs.Groups.{tableOf, GoodGroup, SetsUp, countsOf, seenId, Displays};
+ghost use Rattle.group_reads.specs.Shown.{countsOf, seenId, Displays};
+ghost use Rattle.groups.specs.Groups.{tableOf, GoodGroup, SetsUp};
+use group_reads::Counts;
+use group_reads::SeenId;
+use group_reads::held;
 use message::Code;
-use numbers::SlotId;
 
 // A group of at most 64 slots, 1,024 accounts and 1,024 messages.
 pub struct Group {
@@ -31,30 +34,6 @@ pub struct Group {
 pub struct Answer {
     pub code: Code,
     pub group: Group,
-}
-
-// The room of a group, S slots (`capacity`), and what it holds.
-pub struct Counts {
-    pub capacity: u64,
-    pub slots: u64,
-    pub accounts: u64,
-    pub messages: u64,
-    pub ints: u64,
-    pub exts: u64,
-}
-
-// A slot number, if there is one.
-pub struct SeenId {
-    pub found: bool,
-    pub id: SlotId,
-}
-
-// The slot at a position, if there is one: its number and its counts.
-pub struct SeenSlot {
-    pub found: bool,
-    pub id: SlotId,
-    pub ints: u8,
-    pub exts: u8,
 }
 
 // A group that holds nothing, with room for s slots.
@@ -107,14 +86,7 @@ impl Group {
         ensures { λ r. ⌜ r ≡ countsOf (meant (tableOf self)) ⌝ }
     {
         let numbers = self.numbers;
-        Counts {
-            capacity: numbers[0],
-            slots: numbers[1],
-            accounts: numbers[2],
-            messages: numbers[3],
-            ints: numbers[4],
-            exts: numbers[5],
-        }
+        held::counts(&numbers)
     }
 
     // Whether it has no slot.
@@ -123,8 +95,7 @@ impl Group {
         ensures { λ r. ⌜ r ≡ isNil (meant (tableOf self) .now .slots) ⌝ }
     {
         let numbers = self.numbers;
-        let slots = numbers[1];
-        slots == 0
+        held::is_empty(&numbers)
     }
 
     // Whether it is filled: at least as many slots as asked for, and every bucket below the height empty.
@@ -134,10 +105,7 @@ impl Group {
     {
         let numbers = self.numbers;
         let cells = self.buckets;
-        if numbers[1] < asked {
-            return false;
-        }
-        buckets::none_below(cells, height)
+        held::check_is_filled(&cells, &numbers, asked, height)
     }
 
     // The last slot number that was given; it is not the number of slots.
@@ -146,11 +114,7 @@ impl Group {
         ensures { λ r. ⌜ r ≡ seenId (meant (tableOf self) .now .last) ⌝ }
     {
         let numbers = self.numbers;
-        let last = numbers[6];
-        SeenId {
-            found: numbers[7] != 0,
-            id: SlotId(last as u16),
-        }
+        held::last_slot(&numbers)
     }
 
     // Writes the Display line to the start of what is lent and says how long it is; what is lent stays as it is where the line does not fit.
@@ -159,6 +123,6 @@ impl Group {
         ensures { λ r. ⌜ Displays (meant (tableOf self)) (now (out .entry)) (now (out .exit)) r ⌝ }
     {
         let numbers = self.numbers;
-        display::write_line(numbers[4], numbers[5], numbers[2], numbers[1], out)
+        held::display(&numbers, out)
     }
 }

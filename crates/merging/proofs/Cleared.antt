@@ -12,10 +12,10 @@ use borrow.Author.Tests.{ltb-true, ltb-false}
 use Rattle.numbers.proofs.Bytes.{byBool}
 use Rattle.columns.specs.Laid.{laidAt}
 use Rattle.columns.proofs.Laid.{length-laid, getD-laid-in, getD-laid-behind}
-use Rattle.slots.specs.Table.{Table, count}
+use Rattle.slots.specs.Table.{Table, table, count}
 use Rattle.slots.specs.Good.{Good}
 use Rattle.slots.specs.Join.{freshT}
-use Rattle.merging.specs.Merges.{table, InUse, Clear}
+use Rattle.merging.specs.Merges.{InUse, Clear}
 
 module _ {n size : ℕ} {col : List ℕ} (u : InUse n size col) where
   -- what is laid

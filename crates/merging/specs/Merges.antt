@@ -14,29 +14,11 @@ use Rattle.columns.specs.Lists.{tabI}
 use Rattle.queues.specs.Good.{Zeros}
 use Rattle.buckets.specs.Cells.{index}
 use Rattle.buckets.specs.Moves.{Plain, Leaves, MayList, slotsOf}
-use Rattle.slots.specs.Table.{Table, count}
+use Rattle.slots.specs.Table.{Table, table, count}
 use Rattle.slots.specs.Meant.{meant}
 use Rattle.slots.specs.Good.{Good}
 use Rattle.slots.specs.Join.{freshT, nextT, joinCodeT, joinedNumbersBy, joinedT, SlotsJoined, AccountsJoined, MessagesJoined, RecordsJoined}
 use Rattle.joins.specs.Laying.{SlotRoom, AccountRoom, MessageRoom, RecordRoom, Summable, Countable}
-
--- the columns lent, as one value
-abbrev pub table : (number ints exts accounts home owner kind form time address hash buckets numbers : List ℕ) → Table
-table number ints exts accounts home owner kind form time address hash buckets numbers = record {
-  number = number;
-  ints = ints;
-  exts = exts;
-  accounts = accounts;
-  home = home;
-  owner = owner;
-  kind = kind;
-  form = form;
-  time = time;
-  address = address;
-  hash = hash;
-  buckets = buckets;
-  numbers = numbers;
-}
 
 -- ---- a join: both groups well formed, the rule's code and meaning, and exactly these columns; well formed buckets are told by their index
 

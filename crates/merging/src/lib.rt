@@ -3,9 +3,10 @@
 ghost use mathlib.Core.Path.{_≡_};
 ghost use Prim.Native.Nat.{_*_};
 ghost use lib.ListN.{length, getD};
+ghost use Rattle.slots.specs.Table.{table};
 ghost use Rattle.slots.specs.Good.{Good};
 ghost use Rattle.slots.specs.Join.{freshT};
-ghost use Rattle.merging.specs.Merges.{table, rows, Merges, MayAddSlots, SlotsAdded, MayAdd, Added, InUse, Clear};
+ghost use Rattle.merging.specs.Merges.{rows, Merges, MayAddSlots, SlotsAdded, MayAdd, Added, InUse, Clear};
 use message::Code;
 
 // The right's n slots behind the left's, numbered from `first` on, each listed in the bucket of its count.

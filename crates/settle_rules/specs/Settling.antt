@@ -19,23 +19,6 @@ use Rattle.settle.specs.Copies.{Takes, TakesRows, TakesOwners, TakesKeys, Takes
 use Rattle.settle.specs.Ends.{filledC}
 use Rattle.settle_rules.specs.Facts.{heldBy, TableSettled}
 
-abbrev pub table : (number ints exts accounts home owner kind form time address hash buckets numbers : List ℕ) → Table
-table number ints exts accounts home owner kind form time address hash buckets numbers = record {
-  number = number;
-  ints = ints;
-  exts = exts;
-  accounts = accounts;
-  home = home;
-  owner = owner;
-  kind = kind;
-  form = form;
-  time = time;
-  address = address;
-  hash = hash;
-  buckets = buckets;
-  numbers = numbers;
-}
-
 -- no member has a seat yet
 abbrev pub noSeats : List ℕ
 noSeats = replicate 1280 0

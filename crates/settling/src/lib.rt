@@ -2,9 +2,10 @@
 ghost use mathlib.Core.Path.{_≡_};
 ghost use lib.ListN.{length};
 ghost use Rattle.queues.specs.Cols.{cols};
+ghost use Rattle.slots.specs.Table.{table};
 ghost use Rattle.works.specs.Works.{ranW};
 ghost use Rattle.settle_rules.specs.Facts.{TableSettled};
-ghost use Rattle.settle_rules.specs.Settling.{table, noSeats, messages, MayTake, Took, MayRenumber, Renumbered, from, MaySettleGroup, internalsOf, MaySettle, Settled, MayTell, Told};
+ghost use Rattle.settle_rules.specs.Settling.{noSeats, messages, MayTake, Took, MayRenumber, Renumbered, from, MaySettleGroup, internalsOf, MaySettle, Settled, MayTell, Told};
 use works::Done;
 
 // The n rows taken go behind the `at` messages of the group. The owner of each is the seat of the party that gave it, among the members.

@@ -29,8 +29,8 @@ use Rattle.display.specs.Line.{intWord, extWord, accountsWord, slotsWord, lineO
 use Rattle.display.specs.Pieces.{Puts}
 use Rattle.display.proofs.Pieces.{puts-laid}
 use Rattle.slots.specs.Meant as slots
-use Rattle.groups.specs.declared.group.Counts.{Counts}
-use Rattle.groups.specs.Groups.{countsOf, lineFor, Displays}
+use Rattle.group_reads.specs.declared.Counts.{Counts}
+use Rattle.group_reads.specs.Shown.{countsOf, lineFor, Displays}
 use Rattle.settle_rules.specs.Facts.{keyAt, keysOf}
 use Rattle.entry_rules.specs.Calling as called
 use Rattle.entry_rules.specs.Calling.{Call, args}

@@ -14,7 +14,7 @@ use Rattle.message.specs.declared.Form.the-variants.{Standard}
 use Rattle.message.specs.Real.{Real, Key, offer}
 use Rattle.columns.specs.Lists.{tabI}
 use Rattle.words.specs.Digits.{nameOf}
-use Rattle.groups.specs.Groups.{countsOf, lineFor}
+use Rattle.group_reads.specs.Shown.{countsOf, lineFor}
 use Rattle.text.specs.declared.sheet.Parsed.{Parsed}
 use Rattle.answers.specs.Answer.{newline, brokenLine, addLine, fillLine, leftLine}
 

@@ -24,3 +24,21 @@ pub record Table : Type 0 where
 -- The last slot number is not the number of slots: a slot dropped as empty has had its number.
 abbrev pub count : Table → ℕ → ℕ
 count t k = getD (t .numbers) k 0
+
+-- the columns lent, as one value
+abbrev pub table : (number ints exts accounts home owner kind form time address hash buckets numbers : List ℕ) → Table
+table number ints exts accounts home owner kind form time address hash buckets numbers = record {
+  number = number;
+  ints = ints;
+  exts = exts;
+  accounts = accounts;
+  home = home;
+  owner = owner;
+  kind = kind;
+  form = form;
+  time = time;
+  address = address;
+  hash = hash;
+  buckets = buckets;
+  numbers = numbers;
+}

@@ -44,7 +44,7 @@ use denote.Triple.Table.{entered, cited}
 use denote.Triple.Walked.{says, needs, Stays, stay-ref, stay-none, stay-none-slice, gave-ref, gave-slice, walkOf, goes-none, goes-ref, goes-none-slice, goes-gave-ref, goes-gave-slice, Walks, ends-at, walked, walk-meets}
 use lib.ListN.{length}
 use Rattle.queues.specs.Cols.{cols}
-use Rattle.settle_rules.specs.Settling.{table}
+use Rattle.slots.specs.Table.{table}
 use Rattle.fill_rules.specs.Fills.{callOf, keys, left}
 use Rattle.export_fill.specs.Lent.{filterBy, FillsBy}
 use Rattle.export_fill.specs.Held.{colsOf, tableOf, GoodBuffer, GoodGroup, GoodSet}

@@ -1,5 +1,5 @@
 -- `lintelsong_group_bucket_at` meets its contract: a walk of its code. Each struct is taken apart, what it lends goes to
--- `cores::bucket_at` for lifetimes of the call and comes back, and the struct is put together. Of the core it knows the contract alone.
+-- `group_cores::bucket_at` for lifetimes of the call and comes back, and the struct is put together. Of the core it knows the contract alone.
 -- Written by tools/walks.py. Assumes nothing.
 use mathlib.Core.Path.{refl, ap}
 use Prim.Native.Nat.{ℕ, _<_, _^_, _+_}
@@ -40,16 +40,18 @@ use denote.Triple.Call.{calls-at}
 use denote.Triple.Clauses.{ensured, lasts}
 use denote.Triple.Table.{entered, cited}
 use denote.Triple.Walked.{says, needs, Stays, stay-ref, stay-none, gave-ref, walkOf, goes-none, goes-ref, goes-gave-ref, Walks, ends-at, walked, walk-meets}
-use Rattle.export_group.specs.Lent.{entryIn, idFound, ToldId}
+use Rattle.group_seen.specs.Lent.{entryIn, idFound}
+use Rattle.group_seen.proofs.Looks.{bucket-seen}
+use Rattle.group_cores.specs.Told.{ToldId}
+use Rattle.group_cores.proofs.Answers.{same-id}
 use Rattle.export_group.specs.Held.{tableOf, GoodGroup}
-use Rattle.export_group.proofs.Answers.{bucket-seen}
 use Rattle.export_group.specs.declared.Group.{Group}
 use Rattle.export_group.proofs.Group as Group
 use Rattle.export_group.proofs.GroupApart.{Back as GroupBack, group-apart, group-together}
-use Rattle.export_group.proofs.cores.bucket_at as core
-use Rattle.export_group.proofs.cores.bucket_at.Symbol as core-def
-use Rattle.export_group.proofs.cores.bucket_at.Symbol.{name as #core}
-use Rattle.export_group.proofs.cores.bucket_at.Met as core-thm
+use Rattle.group_cores.proofs.bucket_at as core
+use Rattle.group_cores.proofs.bucket_at.Symbol as core-def
+use Rattle.group_cores.proofs.bucket_at.Symbol.{name as #core}
+use Rattle.group_cores.proofs.bucket_at.Met as core-thm
 use Rattle.export_group.proofs.lintelsong_group_bucket_at.Key.{name as #export}
 use Rattle.export_group.proofs.lintelsong_group_bucket_at as f
 use Rattle.export_group.proofs.lintelsong_group_bucket_at.Statement as stated
@@ -147,7 +149,7 @@ module _ {M : Type 1} (𝓤 : URA M) (H : Heap 𝓤) (A : Atoms 𝓤) (W : Given
   exits : Req → (r : ℕ) (out·last : List ℕ) → Did r out·last → r < 2 ^ 8 → ent 𝓤 (⋆ 𝓤 H A (Ended out·last ∷ [])) (Post (vint w8 r))
   exits pre r out·last e r-fits =
       qed W (Ended out·last ∷ []) ∵
-      suffices ! _ (ends-at 𝓤 H A f.ended stayed (f.clauses 𝓤 H A at-mem run) W (((κ-g, (κ-out, tt)), (q-g, (q-out, tt)), tt, handed, vals), tt) (vint w8 r) r (g, (out·last, (tt, (tt, tt)))) (tt, (tt, (tt, (tt, tt))))) $ says ! ((bucket-seen (tableOf g) pre count k e, refl)) $
+      suffices ! _ (ends-at 𝓤 H A f.ended stayed (f.clauses 𝓤 H A at-mem run) W (((κ-g, (κ-out, tt)), (q-g, (q-out, tt)), tt, handed, vals), tt) (vint w8 r) r (g, (out·last, (tt, (tt, tt)))) (tt, (tt, (tt, (tt, tt))))) $ says ! ((same-id (bucket-seen (tableOf g) pre count k) e, refl)) $
       split ! $ move ! (1 ∷ []) $ split ! $ move ! (1 ∷ []) $ split ! $ move ! (1 ∷ []) $ split ! $ nothing ! $ move ! (2 ∷ 0 ∷ []) $ join ! $ move ! (2 ∷ 0 ∷ []) $ join ! $ frame ! $ nothing ! $ owned ! u64 (Is u64) (uint-makes 𝓤 H A W w64) k _ (refl, k-fits) $ fjoin ! $ owned ! u64 (Is u64) (uint-makes 𝓤 H A W w64) count _ (refl, count-fits) $ fjoin ! $ move ! (1 ∷ 0 ∷ []) $ fjoin ! $ feqI ! (List Val) (vptr b-g o-g ∷ []) (vptr b-g o-g ∷ []) refl $ move ! (0 ∷ 3 ∷ 2 ∷ []) $ fjoin3 ! $ fjoin ! $ owned ! u8 (Is u8) (uint-makes 𝓤 H A W w8) r _ (refl, r-fits) $ move ! (1 ∷ 0 ∷ []) $ done !
 
   module _ (C : Calls 𝓤 H) (Λ : Loops 𝓤 H) (fm : FmC 𝓤 H (W .laws) C) (known : Triple 𝓤 (C #core) (Core 𝓤 H A at-mem run)) where
@@ -188,4 +190,4 @@ lintelsong-group-bucket-at-spec 𝓤 H 𝓜 𝓖 𝓡 =
     entered 𝓤 H (tripleOf 𝓤 H (𝓖 .A) f.signature (f.spec 𝓤 H (𝓖 .A) (𝓜 .mem) (𝓡 .run)))
     (tables 𝓤 H 𝓜 𝓡 code.env .C) (tables 𝓤 H 𝓜 𝓡 code.env .Λ) #export code.function (code.unfolded 𝓤 H 𝓜 𝓡)
     (lintelsong-group-bucket-at-meets 𝓤 H (𝓖 .A) (givenOf 𝓤 H 𝓜 𝓖) (𝓜 .mem) (𝓡 .run) (tablesOf 𝓤 H 𝓜 (tables 𝓤 H 𝓜 𝓡 code.env))
-    (cited 𝓤 H (Core 𝓤 H (𝓖 .A) (𝓜 .mem) (𝓡 .run)) 𝓜 𝓡 code.env #core core-def.routine code.calls-export-group·cores·bucket-at (core-thm.met 𝓤 H 𝓜 𝓖 𝓡)))
+    (cited 𝓤 H (Core 𝓤 H (𝓖 .A) (𝓜 .mem) (𝓡 .run)) 𝓜 𝓡 code.env #core core-def.routine code.calls-group-cores·bucket-at (core-thm.met 𝓤 H 𝓜 𝓖 𝓡)))

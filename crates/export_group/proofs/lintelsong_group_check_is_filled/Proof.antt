@@ -1,5 +1,5 @@
 -- `lintelsong_group_check_is_filled` meets its contract: a walk of its code. Each struct is taken apart, what it lends goes to
--- `cores::check_is_filled` for lifetimes of the call and comes back, and the struct is put together. Of the core it knows the contract alone.
+-- `group_cores::check_is_filled` for lifetimes of the call and comes back, and the struct is put together. Of the core it knows the contract alone.
 -- Written by tools/walks.py. Assumes nothing.
 use mathlib.Core.Path.{_≡_, refl, ap}
 use Prim.Native.Nat.{ℕ, _<_, _^_, _+_}
@@ -40,18 +40,18 @@ use denote.Triple.Call.{calls-at}
 use denote.Triple.Clauses.{ensured, lasts}
 use denote.Triple.Table.{entered, cited}
 use denote.Triple.Walked.{says, needs, Stays, stay-ref, stay-none, walkOf, goes-none, goes-ref, Walks, ends-at, walked, walk-meets}
-use mathlib.Core.Path.{sym, _∙_}
-use Rattle.group_rules.proofs.GroupLook.{filled-told}
+use mathlib.Core.Path.{_∙_}
+use Rattle.group_reads.specs.Lent.{filledIn}
+use Rattle.group_reads.proofs.Looks.{filled-seen}
 use Rattle.export_parts.specs.Parts.{bit}
-use Rattle.export_group.specs.Lent.{filledIn}
 use Rattle.export_group.specs.Held.{tableOf, GoodGroup}
 use Rattle.export_group.specs.declared.Group.{Group}
 use Rattle.export_group.proofs.Group as Group
 use Rattle.export_group.proofs.GroupApart.{Back as GroupBack, group-apart, group-together}
-use Rattle.export_group.proofs.cores.check_is_filled as core
-use Rattle.export_group.proofs.cores.check_is_filled.Symbol as core-def
-use Rattle.export_group.proofs.cores.check_is_filled.Symbol.{name as #core}
-use Rattle.export_group.proofs.cores.check_is_filled.Met as core-thm
+use Rattle.group_cores.proofs.check_is_filled as core
+use Rattle.group_cores.proofs.check_is_filled.Symbol as core-def
+use Rattle.group_cores.proofs.check_is_filled.Symbol.{name as #core}
+use Rattle.group_cores.proofs.check_is_filled.Met as core-thm
 use Rattle.export_group.proofs.lintelsong_group_check_is_filled.Key.{name as #export}
 use Rattle.export_group.proofs.lintelsong_group_check_is_filled as f
 use Rattle.export_group.proofs.lintelsong_group_check_is_filled.Statement as stated
@@ -157,7 +157,7 @@ module _ {M : Type 1} (𝓤 : URA M) (H : Heap 𝓤) (A : Atoms 𝓤) (W : Given
   exits : Req → (r : ℕ) → Did r → r < 2 ^ 8 → ent 𝓤 (⋆ 𝓤 H A (Ended ∷ [])) (Post (vint w8 r))
   exits pre r e r-fits =
       qed W (Ended ∷ []) ∵
-      suffices ! _ (ends-at 𝓤 H A f.ended stayed (f.clauses 𝓤 H A at-mem run) W (((κ-g, tt), (q-g, tt), tt, handed, vals), tt) (vint w8 r) r (g, (tt, (tt, tt))) (tt, (tt, (tt, tt)))) $ says ! ((e ∙ ap bit (sym (filled-told (tableOf g) asked height)), refl)) $
+      suffices ! _ (ends-at 𝓤 H A f.ended stayed (f.clauses 𝓤 H A at-mem run) W (((κ-g, tt), (q-g, tt), tt, handed, vals), tt) (vint w8 r) r (g, (tt, (tt, tt))) (tt, (tt, (tt, tt)))) $ says ! ((e ∙ ap bit (filled-seen (tableOf g) asked height), refl)) $
       split ! $ move ! (1 ∷ []) $ split ! $ nothing ! $ move ! (2 ∷ 0 ∷ []) $ join ! $ frame ! $ nothing ! $ owned ! u64 (Is u64) (uint-makes 𝓤 H A W w64) height _ (refl, height-fits) $ fjoin ! $ owned ! u64 (Is u64) (uint-makes 𝓤 H A W w64) asked _ (refl, asked-fits) $ fjoin ! $ feqI ! (List Val) (vptr b-g o-g ∷ []) (vptr b-g o-g ∷ []) refl $ move ! (0 ∷ 3 ∷ 2 ∷ []) $ fjoin3 ! $ fjoin ! $ owned ! u8 (Is u8) (uint-makes 𝓤 H A W w8) r _ (refl, r-fits) $ move ! (1 ∷ 0 ∷ []) $ done !
 
   module _ (C : Calls 𝓤 H) (Λ : Loops 𝓤 H) (fm : FmC 𝓤 H (W .laws) C) (known : Triple 𝓤 (C #core) (Core 𝓤 H A at-mem run)) where
@@ -198,4 +198,4 @@ lintelsong-group-check-is-filled-spec 𝓤 H 𝓜 𝓖 𝓡 =
     entered 𝓤 H (tripleOf 𝓤 H (𝓖 .A) f.signature (f.spec 𝓤 H (𝓖 .A) (𝓜 .mem) (𝓡 .run)))
     (tables 𝓤 H 𝓜 𝓡 code.env .C) (tables 𝓤 H 𝓜 𝓡 code.env .Λ) #export code.function (code.unfolded 𝓤 H 𝓜 𝓡)
     (lintelsong-group-check-is-filled-meets 𝓤 H (𝓖 .A) (givenOf 𝓤 H 𝓜 𝓖) (𝓜 .mem) (𝓡 .run) (tablesOf 𝓤 H 𝓜 (tables 𝓤 H 𝓜 𝓡 code.env))
-    (cited 𝓤 H (Core 𝓤 H (𝓖 .A) (𝓜 .mem) (𝓡 .run)) 𝓜 𝓡 code.env #core core-def.routine code.calls-export-group·cores·check-is-filled (core-thm.met 𝓤 H 𝓜 𝓖 𝓡)))
+    (cited 𝓤 H (Core 𝓤 H (𝓖 .A) (𝓜 .mem) (𝓡 .run)) 𝓜 𝓡 code.env #core core-def.routine code.calls-group-cores·check-is-filled (core-thm.met 𝓤 H 𝓜 𝓖 𝓡)))

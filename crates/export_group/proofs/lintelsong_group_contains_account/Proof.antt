@@ -1,5 +1,5 @@
 -- `lintelsong_group_contains_account` meets its contract: a walk of its code. Each struct is taken apart, what it lends goes to
--- `cores::contains_account` for lifetimes of the call and comes back, and the struct is put together. Of the core it knows the contract alone.
+-- `group_cores::contains_account` for lifetimes of the call and comes back, and the struct is put together. Of the core it knows the contract alone.
 -- Written by tools/walks.py. Assumes nothing.
 use mathlib.Core.Path.{_≡_, refl, ap}
 use Prim.Native.Nat.{ℕ, _<_, _^_, _+_}
@@ -42,17 +42,17 @@ use denote.Triple.Table.{entered, cited}
 use denote.Triple.Walked.{says, needs, Stays, stay-ref, stay-none-ref, walkOf, goes-ref, goes-none-ref, Walks, ends-at, walked, walk-meets}
 use mathlib.Core.Path.{_∙_}
 use Rattle.group_rules.proofs.GroupLook.{contains-told}
+use Rattle.group_seen.specs.Lent.{holds}
+use Rattle.group_seen.proofs.Looks.{accounts-in}
 use Rattle.export_parts.specs.Parts.{bit}
-use Rattle.export_group.specs.Lent.{holds}
 use Rattle.export_group.specs.Held.{tableOf, GoodGroup}
-use Rattle.export_group.proofs.Answers.{rows-in}
 use Rattle.export_group.specs.declared.Group.{Group}
 use Rattle.export_group.proofs.Group as Group
 use Rattle.export_group.proofs.GroupApart.{Back as GroupBack, group-apart, group-together}
-use Rattle.export_group.proofs.cores.contains_account as core
-use Rattle.export_group.proofs.cores.contains_account.Symbol as core-def
-use Rattle.export_group.proofs.cores.contains_account.Symbol.{name as #core}
-use Rattle.export_group.proofs.cores.contains_account.Met as core-thm
+use Rattle.group_cores.proofs.contains_account as core
+use Rattle.group_cores.proofs.contains_account.Symbol as core-def
+use Rattle.group_cores.proofs.contains_account.Symbol.{name as #core}
+use Rattle.group_cores.proofs.contains_account.Met as core-thm
 use Rattle.export_group.proofs.lintelsong_group_contains_account.Key.{name as #export}
 use Rattle.export_group.proofs.lintelsong_group_contains_account as f
 use Rattle.export_group.proofs.lintelsong_group_contains_account.Statement as stated
@@ -133,7 +133,7 @@ module _ {M : Type 1} (𝓤 : URA M) (H : Heap 𝓤) (A : Atoms 𝓤) (W : Given
   goes-to-core : Req → (n-g : Names-g) → ent 𝓤 (mean 𝓤 H A (Refs-g n-g ⊛ Tokens-g n-g ⊛ ‵ (ShrRef (named 1) κ-name (Array u8 32) .own (record { ptr = (b-name, o-name); name = γ-name; now = name }) (vptr b-name o-name ∷ [])) ⊛ ‵ (flft κ-name q-name))) (Core 𝓤 H A at-mem run .pre (to-core n-g))
   goes-to-core pre n-g =
       qed W ((Refs-g n-g ⊛ Tokens-g n-g ⊛ ‵ (ShrRef (named 1) κ-name (Array u8 32) .own (record { ptr = (b-name, o-name); name = γ-name; now = name }) (vptr b-name o-name ∷ [])) ⊛ ‵ (flft κ-name q-name)) ∷ []) ∵
-      split ! $ move ! (1 ∷ []) $ split ! $ move ! (1 ∷ []) $ split ! $ move ! (3 ∷ []) $ split ! $ move ! (4 ∷ []) $ split ! $ says ! (rows-in (tableOf g) pre) $ nothing ! $ move ! (6 ∷ 0 ∷ []) $ join ! $ move ! (2 ∷ 0 ∷ []) $ join ! $ move ! (1 ∷ 0 ∷ []) $ join ! $ nothing ! $ move ! (4 ∷ 0 ∷ []) $ fjoin ! $ move ! (3 ∷ 0 ∷ []) $ fjoin ! $ move ! (2 ∷ 0 ∷ []) $ fjoin ! $ move ! (1 ∷ 0 ∷ []) $ frame ! $ done !
+      split ! $ move ! (1 ∷ []) $ split ! $ move ! (1 ∷ []) $ split ! $ move ! (3 ∷ []) $ split ! $ move ! (4 ∷ []) $ split ! $ says ! (accounts-in (tableOf g) pre) $ nothing ! $ move ! (6 ∷ 0 ∷ []) $ join ! $ move ! (2 ∷ 0 ∷ []) $ join ! $ move ! (1 ∷ 0 ∷ []) $ join ! $ nothing ! $ move ! (4 ∷ 0 ∷ []) $ fjoin ! $ move ! (3 ∷ 0 ∷ []) $ fjoin ! $ move ! (2 ∷ 0 ∷ []) $ fjoin ! $ move ! (1 ∷ 0 ∷ []) $ frame ! $ done !
 
   -- what is owned on entry is lent
   begins : Req → ent 𝓤 (mean 𝓤 H A ((‵ (flft κ-g q-g) ⊛ ‵ (flft κ-name q-name) ⊛ ‵ (ftrue)) ⊛ ‵ (owns (MutRef (named 0) κ-g Group.the-row ∷ ShrRef (named 1) κ-name (Array u8 32) ∷ []) handed vals))) (mean 𝓤 H A (later (some (λ (n-g : Names-g). raw (Core 𝓤 H A at-mem run .pre (to-core n-g)) ⊛ (Kept-g n-g ⊛ ‵ (ShrRef (named 1) κ-name (Array u8 32) .own (record { ptr = (b-name, o-name); name = γ-name; now = name }) (vptr b-name o-name ∷ [])))))))
@@ -199,4 +199,4 @@ lintelsong-group-contains-account-spec 𝓤 H 𝓜 𝓖 𝓡 =
     entered 𝓤 H (tripleOf 𝓤 H (𝓖 .A) f.signature (f.spec 𝓤 H (𝓖 .A) (𝓜 .mem) (𝓡 .run)))
     (tables 𝓤 H 𝓜 𝓡 code.env .C) (tables 𝓤 H 𝓜 𝓡 code.env .Λ) #export code.function (code.unfolded 𝓤 H 𝓜 𝓡)
     (lintelsong-group-contains-account-meets 𝓤 H (𝓖 .A) (givenOf 𝓤 H 𝓜 𝓖) (𝓜 .mem) (𝓡 .run) (tablesOf 𝓤 H 𝓜 (tables 𝓤 H 𝓜 𝓡 code.env))
-    (cited 𝓤 H (Core 𝓤 H (𝓖 .A) (𝓜 .mem) (𝓡 .run)) 𝓜 𝓡 code.env #core core-def.routine code.calls-export-group·cores·contains-account (core-thm.met 𝓤 H 𝓜 𝓖 𝓡)))
+    (cited 𝓤 H (Core 𝓤 H (𝓖 .A) (𝓜 .mem) (𝓡 .run)) 𝓜 𝓡 code.env #core core-def.routine code.calls-group-cores·contains-account (core-thm.met 𝓤 H 𝓜 𝓖 𝓡)))

@@ -1,5 +1,5 @@
 -- `lintelsong_group_display` meets its contract: a walk of its code. Each struct is taken apart, what it lends goes to
--- `cores::display` for lifetimes of the call and comes back, and the struct is put together. Of the core it knows the contract alone.
+-- `group_cores::display` for lifetimes of the call and comes back, and the struct is put together. Of the core it knows the contract alone.
 -- Written by tools/walks.py. Assumes nothing.
 use mathlib.Core.Path.{_≡_, refl, ap}
 use Prim.Native.Nat.{ℕ, _<_, _^_, _+_}
@@ -42,19 +42,18 @@ use denote.Triple.Clauses.{ensured, lasts}
 use denote.Triple.Table.{entered, cited}
 use denote.Triple.Walked.{says, needs, Stays, stay-ref, gave-slice, walkOf, goes-ref, goes-gave-slice, Walks, ends-at, walked, walk-meets}
 use lib.ListN.{length}
-use mathlib.Core.Path.{sym, _∙_}
-use lib.ListN.{getD}
-use Rattle.display.specs.Line.{lineOf, written}
-use Rattle.groups.specs.Groups.{lineFor}
-use Rattle.groups.proofs.Looks.{counts-are}
+use Rattle.display.specs.Line.{written}
+use Rattle.group_reads.specs.Shown.{lineFor}
+use Rattle.group_reads.specs.Lent.{countsIn}
+use Rattle.group_reads.proofs.Looks.{displayed}
 use Rattle.export_group.specs.Held.{tableOf, GoodGroup}
 use Rattle.export_group.specs.declared.Group.{Group}
 use Rattle.export_group.proofs.Group as Group
 use Rattle.export_group.proofs.GroupApart.{Back as GroupBack, group-apart, group-together}
-use Rattle.export_group.proofs.cores.display as core
-use Rattle.export_group.proofs.cores.display.Symbol as core-def
-use Rattle.export_group.proofs.cores.display.Symbol.{name as #core}
-use Rattle.export_group.proofs.cores.display.Met as core-thm
+use Rattle.group_cores.proofs.display as core
+use Rattle.group_cores.proofs.display.Symbol as core-def
+use Rattle.group_cores.proofs.display.Symbol.{name as #core}
+use Rattle.group_cores.proofs.display.Met as core-thm
 use Rattle.export_group.proofs.lintelsong_group_display.Key.{name as #export}
 use Rattle.export_group.proofs.lintelsong_group_display as f
 use Rattle.export_group.proofs.lintelsong_group_display.Statement as stated
@@ -95,7 +94,7 @@ module _ {M : Type 1} (𝓤 : URA M) (H : Heap 𝓤) (A : Atoms 𝓤) (W : Given
 
   -- what the core ensures of its answer and of what it was lent
   abbrev Did : ℕ → List ℕ → Type 0
-  Did r out·last = (r ≡ length (lineOf (getD (g .numbers) 4 0) (getD (g .numbers) 5 0) (getD (g .numbers) 2 0) (getD (g .numbers) 1 0))) × (out·last ≡ written (lineOf (getD (g .numbers) 4 0) (getD (g .numbers) 5 0) (getD (g .numbers) 2 0) (getD (g .numbers) 1 0)) out)
+  Did r out·last = (r ≡ length (lineFor (countsIn (g .numbers)))) × (out·last ≡ written (lineFor (countsIn (g .numbers))) out)
 
   abbrev to-core : Names-g → Core 𝓤 H A at-mem run .Ghost
   to-core n-g = ((((n-g .ν0 ∷ []), (κ-out, tt)), (fullShare, (q-out, tt)), tt, (x0 (n-g .δ0), (record { ptr = (b-out, o-out); name = γ-out; now = out }, tt)), (vptr b-g (o-g + 116224) ∷ [], (sliceVal (b-out, o-out) (length out) ∷ [], tt))), tt)
@@ -155,7 +154,7 @@ module _ {M : Type 1} (𝓤 : URA M) (H : Heap 𝓤) (A : Atoms 𝓤) (W : Given
   exits : Req → (r : ℕ) (out·last : List ℕ) → Did r out·last → Lengths out·last → r < 2 ^ 64 → ent 𝓤 (⋆ 𝓤 H A (Ended out·last ∷ [])) (Post (vint w64 r))
   exits pre r out·last e lens r-fits =
       qed W (Ended out·last ∷ []) ∵
-      suffices ! _ (ends-at 𝓤 H A f.ended stayed (f.clauses 𝓤 H A at-mem run) W (((κ-g, (κ-out, tt)), (q-g, (q-out, tt)), tt, handed, vals), tt) (vint w64 r) r (g, (out·last, tt)) (tt, (lens, tt))) $ says ! ((record { long = e .0 ∙ ap (λ k. length (lineFor k)) (sym (counts-are (tableOf g) pre)); bytes = e .1 ∙ ap (λ k. written (lineFor k) out) (sym (counts-are (tableOf g) pre)) }, refl)) $
+      suffices ! _ (ends-at 𝓤 H A f.ended stayed (f.clauses 𝓤 H A at-mem run) W (((κ-g, (κ-out, tt)), (q-g, (q-out, tt)), tt, handed, vals), tt) (vint w64 r) r (g, (out·last, tt)) (tt, (lens, tt))) $ says ! ((displayed (tableOf g) pre (e .0) (e .1), refl)) $
       split ! $ move ! (1 ∷ []) $ split ! $ move ! (1 ∷ []) $ split ! $ move ! (1 ∷ []) $ split ! $ nothing ! $ move ! (2 ∷ 0 ∷ []) $ join ! $ move ! (2 ∷ 0 ∷ []) $ join ! $ frame ! $ nothing ! $ move ! (1 ∷ 0 ∷ []) $ fjoin ! $ feqI ! (List Val) (vptr b-g o-g ∷ []) (vptr b-g o-g ∷ []) refl $ move ! (0 ∷ 3 ∷ 2 ∷ []) $ fjoin3 ! $ fjoin ! $ owned ! u64 (Is u64) (uint-makes 𝓤 H A W w64) r _ (refl, r-fits) $ move ! (1 ∷ 0 ∷ []) $ done !
 
   module _ (C : Calls 𝓤 H) (Λ : Loops 𝓤 H) (fm : FmC 𝓤 H (W .laws) C) (known : Triple 𝓤 (C #core) (Core 𝓤 H A at-mem run)) where
@@ -197,4 +196,4 @@ lintelsong-group-display-spec 𝓤 H 𝓜 𝓖 𝓡 =
     entered 𝓤 H (tripleOf 𝓤 H (𝓖 .A) f.signature (f.spec 𝓤 H (𝓖 .A) (𝓜 .mem) (𝓡 .run)))
     (tables 𝓤 H 𝓜 𝓡 code.env .C) (tables 𝓤 H 𝓜 𝓡 code.env .Λ) #export code.function (code.unfolded 𝓤 H 𝓜 𝓡)
     (lintelsong-group-display-meets 𝓤 H (𝓖 .A) (givenOf 𝓤 H 𝓜 𝓖) (𝓜 .mem) (𝓡 .run) (tablesOf 𝓤 H 𝓜 (tables 𝓤 H 𝓜 𝓡 code.env))
-    (cited 𝓤 H (Core 𝓤 H (𝓖 .A) (𝓜 .mem) (𝓡 .run)) 𝓜 𝓡 code.env #core core-def.routine code.calls-export-group·cores·display (core-thm.met 𝓤 H 𝓜 𝓖 𝓡)))
+    (cited 𝓤 H (Core 𝓤 H (𝓖 .A) (𝓜 .mem) (𝓡 .run)) 𝓜 𝓡 code.env #core core-def.routine code.calls-group-cores·display (core-thm.met 𝓤 H 𝓜 𝓖 𝓡)))

@@ -1,5 +1,5 @@
 -- `lintelsong_group_is_empty` meets its contract: a walk of its code. Each struct is taken apart, what it lends goes to
--- `cores::is_empty` for lifetimes of the call and comes back, and the struct is put together. Of the core it knows the contract alone.
+-- `group_cores::is_empty` for lifetimes of the call and comes back, and the struct is put together. Of the core it knows the contract alone.
 -- Written by tools/walks.py. Assumes nothing.
 use mathlib.Core.Path.{_≡_, refl, ap}
 use Prim.Native.Nat.{ℕ, _<_, _^_, _+_}
@@ -40,18 +40,17 @@ use denote.Triple.Clauses.{ensured, lasts}
 use denote.Triple.Table.{entered, cited}
 use denote.Triple.Walked.{says, needs, Stays, stay-ref, walkOf, goes-ref, Walks, ends-at, walked, walk-meets}
 use mathlib.Core.Path.{_∙_}
-use lib.Dec.{eqb}
-use lib.ListN.{getD}
+use Rattle.group_reads.specs.Lent.{emptyIn}
+use Rattle.group_reads.proofs.Looks.{empty-seen}
 use Rattle.export_parts.specs.Parts.{bit}
 use Rattle.export_group.specs.Held.{tableOf, GoodGroup}
-use Rattle.export_group.proofs.Answers.{empty-told}
 use Rattle.export_group.specs.declared.Group.{Group}
 use Rattle.export_group.proofs.Group as Group
 use Rattle.export_group.proofs.GroupApart.{Back as GroupBack, group-apart, group-together}
-use Rattle.export_group.proofs.cores.is_empty as core
-use Rattle.export_group.proofs.cores.is_empty.Symbol as core-def
-use Rattle.export_group.proofs.cores.is_empty.Symbol.{name as #core}
-use Rattle.export_group.proofs.cores.is_empty.Met as core-thm
+use Rattle.group_cores.proofs.is_empty as core
+use Rattle.group_cores.proofs.is_empty.Symbol as core-def
+use Rattle.group_cores.proofs.is_empty.Symbol.{name as #core}
+use Rattle.group_cores.proofs.is_empty.Met as core-thm
 use Rattle.export_group.proofs.lintelsong_group_is_empty.Key.{name as #export}
 use Rattle.export_group.proofs.lintelsong_group_is_empty as f
 use Rattle.export_group.proofs.lintelsong_group_is_empty.Statement as stated
@@ -92,7 +91,7 @@ module _ {M : Type 1} (𝓤 : URA M) (H : Heap 𝓤) (A : Atoms 𝓤) (W : Given
 
   -- what the core ensures of its answer and of what it was lent
   abbrev Did : ℕ → Type 0
-  Did r = r ≡ bit (eqb (getD (g .numbers) 1 0) 0)
+  Did r = r ≡ bit (emptyIn (g .numbers))
 
   abbrev to-core : Names-g → Core 𝓤 H A at-mem run .Ghost
   to-core n-g = ((((n-g .ν0 ∷ []), tt), (fullShare, tt), tt, (x0 (n-g .δ0), tt), (vptr b-g (o-g + 116224) ∷ [], tt)), tt)
@@ -149,7 +148,7 @@ module _ {M : Type 1} (𝓤 : URA M) (H : Heap 𝓤) (A : Atoms 𝓤) (W : Given
   exits : Req → (r : ℕ) → Did r → r < 2 ^ 8 → ent 𝓤 (⋆ 𝓤 H A (Ended ∷ [])) (Post (vint w8 r))
   exits pre r e r-fits =
       qed W (Ended ∷ []) ∵
-      suffices ! _ (ends-at 𝓤 H A f.ended stayed (f.clauses 𝓤 H A at-mem run) W (((κ-g, tt), (q-g, tt), tt, handed, vals), tt) (vint w8 r) r (g, tt) (tt, tt)) $ says ! ((e ∙ ap bit (empty-told (tableOf g)), refl)) $
+      suffices ! _ (ends-at 𝓤 H A f.ended stayed (f.clauses 𝓤 H A at-mem run) W (((κ-g, tt), (q-g, tt), tt, handed, vals), tt) (vint w8 r) r (g, tt) (tt, tt)) $ says ! ((e ∙ ap bit (empty-seen (tableOf g)), refl)) $
       split ! $ move ! (1 ∷ []) $ split ! $ nothing ! $ move ! (2 ∷ 0 ∷ []) $ join ! $ frame ! $ nothing ! $ feqI ! (List Val) (vptr b-g o-g ∷ []) (vptr b-g o-g ∷ []) refl $ move ! (0 ∷ 3 ∷ 2 ∷ []) $ fjoin3 ! $ fjoin ! $ owned ! u8 (Is u8) (uint-makes 𝓤 H A W w8) r _ (refl, r-fits) $ move ! (1 ∷ 0 ∷ []) $ done !
 
   module _ (C : Calls 𝓤 H) (Λ : Loops 𝓤 H) (fm : FmC 𝓤 H (W .laws) C) (known : Triple 𝓤 (C #core) (Core 𝓤 H A at-mem run)) where
@@ -189,4 +188,4 @@ lintelsong-group-is-empty-spec 𝓤 H 𝓜 𝓖 𝓡 =
     entered 𝓤 H (tripleOf 𝓤 H (𝓖 .A) f.signature (f.spec 𝓤 H (𝓖 .A) (𝓜 .mem) (𝓡 .run)))
     (tables 𝓤 H 𝓜 𝓡 code.env .C) (tables 𝓤 H 𝓜 𝓡 code.env .Λ) #export code.function (code.unfolded 𝓤 H 𝓜 𝓡)
     (lintelsong-group-is-empty-meets 𝓤 H (𝓖 .A) (givenOf 𝓤 H 𝓜 𝓖) (𝓜 .mem) (𝓡 .run) (tablesOf 𝓤 H 𝓜 (tables 𝓤 H 𝓜 𝓡 code.env))
-    (cited 𝓤 H (Core 𝓤 H (𝓖 .A) (𝓜 .mem) (𝓡 .run)) 𝓜 𝓡 code.env #core core-def.routine code.calls-export-group·cores·is-empty (core-thm.met 𝓤 H 𝓜 𝓖 𝓡)))
+    (cited 𝓤 H (Core 𝓤 H (𝓖 .A) (𝓜 .mem) (𝓡 .run)) 𝓜 𝓡 code.env #core core-def.routine code.calls-group-cores·is-empty (core-thm.met 𝓤 H 𝓜 𝓖 𝓡)))

@@ -1,5 +1,5 @@
 -- `lintelsong_group_message_at` meets its contract: a walk of its code. Each struct is taken apart, what it lends goes to
--- `cores::message_at` for lifetimes of the call and comes back, and the struct is put together. Of the core it knows the contract alone.
+-- `group_cores::message_at` for lifetimes of the call and comes back, and the struct is put together. Of the core it knows the contract alone.
 -- Written by tools/walks.py. Assumes nothing.
 use mathlib.Core.Path.{refl, ap}
 use Prim.Native.Nat.{ℕ, _<_, _^_, _+_}
@@ -40,17 +40,18 @@ use denote.Triple.Call.{calls-at}
 use denote.Triple.Clauses.{ensured, lasts}
 use denote.Triple.Table.{entered, cited}
 use denote.Triple.Walked.{says, needs, Stays, stay-ref, stay-none, stay-none-ref, gave-ref, walkOf, goes-none, goes-ref, goes-none-ref, goes-gave-ref, Walks, ends-at, walked, walk-meets}
+use Rattle.group_seen.specs.Lent.{messageFound, rowFor}
+use Rattle.group_seen.proofs.Looks.{message-seen, accounts-in, messages-in}
 use Rattle.export_parts.specs.Parts.{ToldMessage}
-use Rattle.export_group.specs.Lent.{messageFound, rowFor}
+use Rattle.group_cores.proofs.Answers.{same-message}
 use Rattle.export_group.specs.Held.{tableOf, GoodGroup}
-use Rattle.export_group.proofs.Answers.{rows-in, messages-in, message-seen}
 use Rattle.export_group.specs.declared.Group.{Group}
 use Rattle.export_group.proofs.Group as Group
 use Rattle.export_group.proofs.GroupApart.{Back as GroupBack, group-apart, group-together}
-use Rattle.export_group.proofs.cores.message_at as core
-use Rattle.export_group.proofs.cores.message_at.Symbol as core-def
-use Rattle.export_group.proofs.cores.message_at.Symbol.{name as #core}
-use Rattle.export_group.proofs.cores.message_at.Met as core-thm
+use Rattle.group_cores.proofs.message_at as core
+use Rattle.group_cores.proofs.message_at.Symbol as core-def
+use Rattle.group_cores.proofs.message_at.Symbol.{name as #core}
+use Rattle.group_cores.proofs.message_at.Met as core-thm
 use Rattle.export_group.proofs.lintelsong_group_message_at.Key.{name as #export}
 use Rattle.export_group.proofs.lintelsong_group_message_at as f
 use Rattle.export_group.proofs.lintelsong_group_message_at.Statement as stated
@@ -179,7 +180,7 @@ module _ {M : Type 1} (𝓤 : URA M) (H : Heap 𝓤) (A : Atoms 𝓤) (W : Given
   goes-to-core : Req → (n-g : Names-g) → ent 𝓤 (mean 𝓤 H A (Refs-g n-g ⊛ Tokens-g n-g ⊛ ‵ (ShrRef (named 1) κ-name (Array u8 32) .own (record { ptr = (b-name, o-name); name = γ-name; now = name }) (vptr b-name o-name ∷ [])) ⊛ ‵ (flft κ-name q-name) ⊛ ‵ (MutRef (named 2) κ-facts (Array u64 4) .own (record { ptr = (b-facts, o-facts); name = γ-facts; now = facts }) (vptr b-facts o-facts ∷ [])) ⊛ ‵ (flft κ-facts q-facts) ⊛ ‵ (MutRef (named 3) κ-address (Array u8 32) .own (record { ptr = (b-address, o-address); name = γ-address; now = address }) (vptr b-address o-address ∷ [])) ⊛ ‵ (flft κ-address q-address) ⊛ ‵ (MutRef (named 4) κ-hash (Array u8 32) .own (record { ptr = (b-hash, o-hash); name = γ-hash; now = hash }) (vptr b-hash o-hash ∷ [])) ⊛ ‵ (flft κ-hash q-hash))) (Core 𝓤 H A at-mem run .pre (to-core n-g))
   goes-to-core pre n-g =
       qed W ((Refs-g n-g ⊛ Tokens-g n-g ⊛ ‵ (ShrRef (named 1) κ-name (Array u8 32) .own (record { ptr = (b-name, o-name); name = γ-name; now = name }) (vptr b-name o-name ∷ [])) ⊛ ‵ (flft κ-name q-name) ⊛ ‵ (MutRef (named 2) κ-facts (Array u64 4) .own (record { ptr = (b-facts, o-facts); name = γ-facts; now = facts }) (vptr b-facts o-facts ∷ [])) ⊛ ‵ (flft κ-facts q-facts) ⊛ ‵ (MutRef (named 3) κ-address (Array u8 32) .own (record { ptr = (b-address, o-address); name = γ-address; now = address }) (vptr b-address o-address ∷ [])) ⊛ ‵ (flft κ-address q-address) ⊛ ‵ (MutRef (named 4) κ-hash (Array u8 32) .own (record { ptr = (b-hash, o-hash); name = γ-hash; now = hash }) (vptr b-hash o-hash ∷ [])) ⊛ ‵ (flft κ-hash q-hash)) ∷ []) ∵
-      split ! $ move ! (1 ∷ []) $ split ! $ move ! (1 ∷ []) $ split ! $ move ! (1 ∷ []) $ split ! $ move ! (1 ∷ []) $ split ! $ move ! (1 ∷ []) $ split ! $ move ! (1 ∷ []) $ split ! $ move ! (1 ∷ []) $ split ! $ move ! (1 ∷ []) $ split ! $ move ! (9 ∷ []) $ split ! $ move ! (1 ∷ []) $ split ! $ move ! (1 ∷ []) $ split ! $ move ! (1 ∷ []) $ split ! $ move ! (1 ∷ []) $ split ! $ move ! (1 ∷ []) $ split ! $ move ! (1 ∷ []) $ split ! $ move ! (16 ∷ []) $ split ! $ move ! (1 ∷ []) $ split ! $ move ! (1 ∷ []) $ split ! $ move ! (1 ∷ []) $ split ! $ move ! (1 ∷ []) $ split ! $ move ! (1 ∷ []) $ split ! $ move ! (1 ∷ []) $ split ! $ says ! (rows-in (tableOf g) pre, messages-in (tableOf g) pre) $ nothing ! $ move ! (18 ∷ 0 ∷ []) $ join ! $ move ! (18 ∷ 0 ∷ []) $ join ! $ move ! (19 ∷ 0 ∷ []) $ join ! $ move ! (20 ∷ 0 ∷ []) $ join ! $ move ! (2 ∷ 0 ∷ []) $ join ! $ move ! (1 ∷ 0 ∷ []) $ join ! $ move ! (1 ∷ 0 ∷ []) $ join ! $ move ! (1 ∷ 0 ∷ []) $ join ! $ move ! (1 ∷ 0 ∷ []) $ join ! $ move ! (1 ∷ 0 ∷ []) $ join ! $ move ! (1 ∷ 0 ∷ []) $ join ! $ move ! (1 ∷ 0 ∷ []) $ join ! $ nothing ! $ owned ! u64 (Is u64) (uint-makes 𝓤 H A W w64) k _ (refl, k-fits) $ fjoin ! $ move ! (10 ∷ 0 ∷ []) $ fjoin ! $ move ! (10 ∷ 0 ∷ []) $ fjoin ! $ move ! (10 ∷ 0 ∷ []) $ fjoin ! $ move ! (10 ∷ 0 ∷ []) $ fjoin ! $ move ! (3 ∷ 0 ∷ []) $ fjoin ! $ move ! (2 ∷ 0 ∷ []) $ fjoin ! $ move ! (2 ∷ 0 ∷ []) $ fjoin ! $ move ! (2 ∷ 0 ∷ []) $ fjoin ! $ move ! (2 ∷ 0 ∷ []) $ fjoin ! $ move ! (2 ∷ 0 ∷ []) $ fjoin ! $ move ! (2 ∷ 0 ∷ []) $ fjoin ! $ move ! (2 ∷ 0 ∷ []) $ fjoin ! $ move ! (1 ∷ 0 ∷ []) $ frame ! $ done !
+      split ! $ move ! (1 ∷ []) $ split ! $ move ! (1 ∷ []) $ split ! $ move ! (1 ∷ []) $ split ! $ move ! (1 ∷ []) $ split ! $ move ! (1 ∷ []) $ split ! $ move ! (1 ∷ []) $ split ! $ move ! (1 ∷ []) $ split ! $ move ! (1 ∷ []) $ split ! $ move ! (9 ∷ []) $ split ! $ move ! (1 ∷ []) $ split ! $ move ! (1 ∷ []) $ split ! $ move ! (1 ∷ []) $ split ! $ move ! (1 ∷ []) $ split ! $ move ! (1 ∷ []) $ split ! $ move ! (1 ∷ []) $ split ! $ move ! (16 ∷ []) $ split ! $ move ! (1 ∷ []) $ split ! $ move ! (1 ∷ []) $ split ! $ move ! (1 ∷ []) $ split ! $ move ! (1 ∷ []) $ split ! $ move ! (1 ∷ []) $ split ! $ move ! (1 ∷ []) $ split ! $ says ! (accounts-in (tableOf g) pre, messages-in (tableOf g) pre) $ nothing ! $ move ! (18 ∷ 0 ∷ []) $ join ! $ move ! (18 ∷ 0 ∷ []) $ join ! $ move ! (19 ∷ 0 ∷ []) $ join ! $ move ! (20 ∷ 0 ∷ []) $ join ! $ move ! (2 ∷ 0 ∷ []) $ join ! $ move ! (1 ∷ 0 ∷ []) $ join ! $ move ! (1 ∷ 0 ∷ []) $ join ! $ move ! (1 ∷ 0 ∷ []) $ join ! $ move ! (1 ∷ 0 ∷ []) $ join ! $ move ! (1 ∷ 0 ∷ []) $ join ! $ move ! (1 ∷ 0 ∷ []) $ join ! $ move ! (1 ∷ 0 ∷ []) $ join ! $ nothing ! $ owned ! u64 (Is u64) (uint-makes 𝓤 H A W w64) k _ (refl, k-fits) $ fjoin ! $ move ! (10 ∷ 0 ∷ []) $ fjoin ! $ move ! (10 ∷ 0 ∷ []) $ fjoin ! $ move ! (10 ∷ 0 ∷ []) $ fjoin ! $ move ! (10 ∷ 0 ∷ []) $ fjoin ! $ move ! (3 ∷ 0 ∷ []) $ fjoin ! $ move ! (2 ∷ 0 ∷ []) $ fjoin ! $ move ! (2 ∷ 0 ∷ []) $ fjoin ! $ move ! (2 ∷ 0 ∷ []) $ fjoin ! $ move ! (2 ∷ 0 ∷ []) $ fjoin ! $ move ! (2 ∷ 0 ∷ []) $ fjoin ! $ move ! (2 ∷ 0 ∷ []) $ fjoin ! $ move ! (2 ∷ 0 ∷ []) $ fjoin ! $ move ! (1 ∷ 0 ∷ []) $ frame ! $ done !
 
   -- what is owned on entry is lent
   begins : Req → ent 𝓤 (mean 𝓤 H A ((‵ (flft κ-g q-g) ⊛ ‵ (flft κ-name q-name) ⊛ ‵ (flft κ-facts q-facts) ⊛ ‵ (flft κ-address q-address) ⊛ ‵ (flft κ-hash q-hash) ⊛ ‵ (ftrue)) ⊛ ‵ (owns (MutRef (named 0) κ-g Group.the-row ∷ ShrRef (named 1) κ-name (Array u8 32) ∷ MutRef (named 2) κ-facts (Array u64 4) ∷ MutRef (named 3) κ-address (Array u8 32) ∷ MutRef (named 4) κ-hash (Array u8 32) ∷ u64 ∷ []) handed vals))) (mean 𝓤 H A (later (some (λ (n-g : Names-g). raw (Core 𝓤 H A at-mem run .pre (to-core n-g)) ⊛ (Kept-g n-g ⊛ ‵ (ShrRef (named 1) κ-name (Array u8 32) .own (record { ptr = (b-name, o-name); name = γ-name; now = name }) (vptr b-name o-name ∷ [])))))))
@@ -204,7 +205,7 @@ module _ {M : Type 1} (𝓤 : URA M) (H : Heap 𝓤) (A : Atoms 𝓤) (W : Given
   exits : Req → (r : ℕ) (facts·last : List ℕ) (address·last : List ℕ) (hash·last : List ℕ) → Did r facts·last address·last hash·last → r < 2 ^ 8 → ent 𝓤 (⋆ 𝓤 H A (Ended facts·last address·last hash·last ∷ [])) (Post (vint w8 r))
   exits pre r facts·last address·last hash·last e r-fits =
       qed W (Ended facts·last address·last hash·last ∷ []) ∵
-      suffices ! _ (ends-at 𝓤 H A f.ended stayed (f.clauses 𝓤 H A at-mem run) W (((κ-g, (κ-name, (κ-facts, (κ-address, (κ-hash, tt))))), (q-g, (q-name, (q-facts, (q-address, (q-hash, tt))))), tt, handed, vals), tt) (vint w8 r) r (g, (tt, (facts·last, (address·last, (hash·last, (tt, tt)))))) (tt, (tt, (tt, (tt, (tt, (tt, tt))))))) $ says ! ((message-seen (tableOf g) pre name k e, refl)) $
+      suffices ! _ (ends-at 𝓤 H A f.ended stayed (f.clauses 𝓤 H A at-mem run) W (((κ-g, (κ-name, (κ-facts, (κ-address, (κ-hash, tt))))), (q-g, (q-name, (q-facts, (q-address, (q-hash, tt))))), tt, handed, vals), tt) (vint w8 r) r (g, (tt, (facts·last, (address·last, (hash·last, (tt, tt)))))) (tt, (tt, (tt, (tt, (tt, (tt, tt))))))) $ says ! ((same-message (message-seen (tableOf g) pre name k) e, refl)) $
       split ! $ move ! (1 ∷ []) $ split ! $ move ! (1 ∷ []) $ split ! $ move ! (1 ∷ []) $ split ! $ move ! (1 ∷ []) $ split ! $ move ! (1 ∷ []) $ split ! $ move ! (1 ∷ []) $ split ! $ move ! (1 ∷ []) $ split ! $ move ! (1 ∷ []) $ split ! $ move ! (1 ∷ []) $ split ! $ nothing ! $ move ! (2 ∷ 0 ∷ []) $ join ! $ move ! (2 ∷ 0 ∷ []) $ join ! $ move ! (3 ∷ 0 ∷ []) $ join ! $ move ! (4 ∷ 0 ∷ []) $ join ! $ move ! (5 ∷ 0 ∷ []) $ join ! $ frame ! $ nothing ! $ owned ! u64 (Is u64) (uint-makes 𝓤 H A W w64) k _ (refl, k-fits) $ fjoin ! $ move ! (1 ∷ 0 ∷ []) $ fjoin ! $ move ! (1 ∷ 0 ∷ []) $ fjoin ! $ move ! (1 ∷ 0 ∷ []) $ fjoin ! $ move ! (1 ∷ 0 ∷ []) $ fjoin ! $ feqI ! (List Val) (vptr b-g o-g ∷ []) (vptr b-g o-g ∷ []) refl $ move ! (0 ∷ 3 ∷ 2 ∷ []) $ fjoin3 ! $ fjoin ! $ owned ! u8 (Is u8) (uint-makes 𝓤 H A W w8) r _ (refl, r-fits) $ move ! (1 ∷ 0 ∷ []) $ done !
 
   module _ (C : Calls 𝓤 H) (Λ : Loops 𝓤 H) (fm : FmC 𝓤 H (W .laws) C) (known : Triple 𝓤 (C #core) (Core 𝓤 H A at-mem run)) where
@@ -254,4 +255,4 @@ lintelsong-group-message-at-spec 𝓤 H 𝓜 𝓖 𝓡 =
     entered 𝓤 H (tripleOf 𝓤 H (𝓖 .A) f.signature (f.spec 𝓤 H (𝓖 .A) (𝓜 .mem) (𝓡 .run)))
     (tables 𝓤 H 𝓜 𝓡 code.env .C) (tables 𝓤 H 𝓜 𝓡 code.env .Λ) #export code.function (code.unfolded 𝓤 H 𝓜 𝓡)
     (lintelsong-group-message-at-meets 𝓤 H (𝓖 .A) (givenOf 𝓤 H 𝓜 𝓖) (𝓜 .mem) (𝓡 .run) (tablesOf 𝓤 H 𝓜 (tables 𝓤 H 𝓜 𝓡 code.env))
-    (cited 𝓤 H (Core 𝓤 H (𝓖 .A) (𝓜 .mem) (𝓡 .run)) 𝓜 𝓡 code.env #core core-def.routine code.calls-export-group·cores·message-at (core-thm.met 𝓤 H 𝓜 𝓖 𝓡)))
+    (cited 𝓤 H (Core 𝓤 H (𝓖 .A) (𝓜 .mem) (𝓡 .run)) 𝓜 𝓡 code.env #core core-def.routine code.calls-group-cores·message-at (core-thm.met 𝓤 H 𝓜 𝓖 𝓡)))

@@ -1,5 +1,5 @@
 -- `lintelsong_group_set_up` meets its contract: a walk of its code. Each struct is taken apart, what it lends goes to
--- `cores::set_up` for lifetimes of the call and comes back, and the struct is put together. Of the core it knows the contract alone.
+-- `group_cores::set_up` for lifetimes of the call and comes back, and the struct is put together. Of the core it knows the contract alone.
 -- Written by tools/walks.py. Assumes nothing.
 use mathlib.Core.Path.{refl, ap}
 use Prim.Native.Nat.{ℕ, _<_, _^_, _+_}
@@ -40,14 +40,15 @@ use denote.Triple.Call.{calls-at}
 use denote.Triple.Clauses.{ensured, lasts}
 use denote.Triple.Table.{entered, cited}
 use denote.Triple.Walked.{says, Stays, stay-ref, stay-none, walkOf, goes-none, goes-ref, Walks, ends-at, walked, walk-meets}
-use Rattle.export_group.specs.Lent.{table, SetsUp}
+use Rattle.slots.specs.Table.{table}
+use Rattle.group_cores.specs.Told.{SetsUp}
 use Rattle.export_group.specs.declared.Group.{Group}
 use Rattle.export_group.proofs.Group as Group
 use Rattle.export_group.proofs.GroupApart.{Back as GroupBack, group-apart, group-together}
-use Rattle.export_group.proofs.cores.set_up as core
-use Rattle.export_group.proofs.cores.set_up.Symbol as core-def
-use Rattle.export_group.proofs.cores.set_up.Symbol.{name as #core}
-use Rattle.export_group.proofs.cores.set_up.Met as core-thm
+use Rattle.group_cores.proofs.set_up as core
+use Rattle.group_cores.proofs.set_up.Symbol as core-def
+use Rattle.group_cores.proofs.set_up.Symbol.{name as #core}
+use Rattle.group_cores.proofs.set_up.Met as core-thm
 use Rattle.export_group.proofs.lintelsong_group_set_up.Key.{name as #export}
 use Rattle.export_group.proofs.lintelsong_group_set_up as f
 use Rattle.export_group.proofs.lintelsong_group_set_up.Statement as stated
@@ -289,4 +290,4 @@ lintelsong-group-set-up-spec 𝓤 H 𝓜 𝓖 𝓡 =
     entered 𝓤 H (tripleOf 𝓤 H (𝓖 .A) f.signature (f.spec 𝓤 H (𝓖 .A) (𝓜 .mem) (𝓡 .run)))
     (tables 𝓤 H 𝓜 𝓡 code.env .C) (tables 𝓤 H 𝓜 𝓡 code.env .Λ) #export code.function (code.unfolded 𝓤 H 𝓜 𝓡)
     (lintelsong-group-set-up-meets 𝓤 H (𝓖 .A) (givenOf 𝓤 H 𝓜 𝓖) (𝓜 .mem) (𝓡 .run) (tablesOf 𝓤 H 𝓜 (tables 𝓤 H 𝓜 𝓡 code.env))
-    (cited 𝓤 H (Core 𝓤 H (𝓖 .A) (𝓜 .mem) (𝓡 .run)) 𝓜 𝓡 code.env #core core-def.routine code.calls-export-group·cores·set-up (core-thm.met 𝓤 H 𝓜 𝓖 𝓡)))
+    (cited 𝓤 H (Core 𝓤 H (𝓖 .A) (𝓜 .mem) (𝓡 .run)) 𝓜 𝓡 code.env #core core-def.routine code.calls-group-cores·set-up (core-thm.met 𝓤 H 𝓜 𝓖 𝓡)))

@@ -1,5 +1,5 @@
 -- `lintelsong_group_slot_account_at` meets its contract: a walk of its code. Each struct is taken apart, what it lends goes to
--- `cores::slot_account_at` for lifetimes of the call and comes back, and the struct is put together. Of the core it knows the contract alone.
+-- `group_cores::slot_account_at` for lifetimes of the call and comes back, and the struct is put together. Of the core it knows the contract alone.
 -- Written by tools/walks.py. Assumes nothing.
 use mathlib.Core.Path.{refl, ap}
 use Prim.Native.Nat.{ℕ, _<_, _^_, _+_}
@@ -42,17 +42,18 @@ use denote.Triple.Table.{entered, cited}
 use denote.Triple.Walked.{says, needs, Stays, stay-ref, stay-none, gave-ref, walkOf, goes-none, goes-ref, goes-gave-ref, Walks, ends-at, walked, walk-meets}
 use lib.ListN.{getD}
 use Rattle.queues.specs.Look.{rowOf}
+use Rattle.group_seen.specs.Lent.{accountFound}
+use Rattle.group_seen.proofs.Looks.{slot-account-seen, accounts-in}
 use Rattle.export_parts.specs.Parts.{Told}
-use Rattle.export_group.specs.Lent.{accountFound}
+use Rattle.group_cores.proofs.Answers.{same-account}
 use Rattle.export_group.specs.Held.{tableOf, GoodGroup}
-use Rattle.export_group.proofs.Answers.{accounts-in, slot-account-seen}
 use Rattle.export_group.specs.declared.Group.{Group}
 use Rattle.export_group.proofs.Group as Group
 use Rattle.export_group.proofs.GroupApart.{Back as GroupBack, group-apart, group-together}
-use Rattle.export_group.proofs.cores.slot_account_at as core
-use Rattle.export_group.proofs.cores.slot_account_at.Symbol as core-def
-use Rattle.export_group.proofs.cores.slot_account_at.Symbol.{name as #core}
-use Rattle.export_group.proofs.cores.slot_account_at.Met as core-thm
+use Rattle.group_cores.proofs.slot_account_at as core
+use Rattle.group_cores.proofs.slot_account_at.Symbol as core-def
+use Rattle.group_cores.proofs.slot_account_at.Symbol.{name as #core}
+use Rattle.group_cores.proofs.slot_account_at.Met as core-thm
 use Rattle.export_group.proofs.lintelsong_group_slot_account_at.Key.{name as #export}
 use Rattle.export_group.proofs.lintelsong_group_slot_account_at as f
 use Rattle.export_group.proofs.lintelsong_group_slot_account_at.Statement as stated
@@ -141,7 +142,7 @@ module _ {M : Type 1} (𝓤 : URA M) (H : Heap 𝓤) (A : Atoms 𝓤) (W : Given
   goes-to-core : Req → (n-g : Names-g) → ent 𝓤 (mean 𝓤 H A (Refs-g n-g ⊛ Tokens-g n-g ⊛ ‵ (MutRef (named 1) κ-out (Array u8 32) .own (record { ptr = (b-out, o-out); name = γ-out; now = out }) (vptr b-out o-out ∷ [])) ⊛ ‵ (flft κ-out q-out))) (Core 𝓤 H A at-mem run .pre (to-core n-g))
   goes-to-core pre n-g =
       qed W ((Refs-g n-g ⊛ Tokens-g n-g ⊛ ‵ (MutRef (named 1) κ-out (Array u8 32) .own (record { ptr = (b-out, o-out); name = γ-out; now = out }) (vptr b-out o-out ∷ [])) ⊛ ‵ (flft κ-out q-out)) ∷ []) ∵
-      split ! $ move ! (1 ∷ []) $ split ! $ move ! (1 ∷ []) $ split ! $ move ! (3 ∷ []) $ split ! $ move ! (1 ∷ []) $ split ! $ move ! (5 ∷ []) $ split ! $ move ! (1 ∷ []) $ split ! $ says ! (accounts-in (tableOf g) pre) $ nothing ! $ move ! (8 ∷ 0 ∷ []) $ join ! $ move ! (2 ∷ 0 ∷ []) $ join ! $ move ! (1 ∷ 0 ∷ []) $ join ! $ move ! (1 ∷ 0 ∷ []) $ join ! $ nothing ! $ owned ! u64 (Is u64) (uint-makes 𝓤 H A W w64) k _ (refl, k-fits) $ fjoin ! $ owned ! u64 (Is u64) (uint-makes 𝓤 H A W w64) position _ (refl, position-fits) $ fjoin ! $ move ! (5 ∷ 0 ∷ []) $ fjoin ! $ move ! (3 ∷ 0 ∷ []) $ fjoin ! $ move ! (2 ∷ 0 ∷ []) $ fjoin ! $ move ! (2 ∷ 0 ∷ []) $ fjoin ! $ move ! (1 ∷ 0 ∷ []) $ frame ! $ done !
+      split ! $ move ! (1 ∷ []) $ split ! $ move ! (1 ∷ []) $ split ! $ move ! (3 ∷ []) $ split ! $ move ! (1 ∷ []) $ split ! $ move ! (5 ∷ []) $ split ! $ move ! (1 ∷ []) $ split ! $ says ! (accounts-in (tableOf g) pre, pre .lengths .home) $ nothing ! $ move ! (8 ∷ 0 ∷ []) $ join ! $ move ! (2 ∷ 0 ∷ []) $ join ! $ move ! (1 ∷ 0 ∷ []) $ join ! $ move ! (1 ∷ 0 ∷ []) $ join ! $ nothing ! $ owned ! u64 (Is u64) (uint-makes 𝓤 H A W w64) k _ (refl, k-fits) $ fjoin ! $ owned ! u64 (Is u64) (uint-makes 𝓤 H A W w64) position _ (refl, position-fits) $ fjoin ! $ move ! (5 ∷ 0 ∷ []) $ fjoin ! $ move ! (3 ∷ 0 ∷ []) $ fjoin ! $ move ! (2 ∷ 0 ∷ []) $ fjoin ! $ move ! (2 ∷ 0 ∷ []) $ fjoin ! $ move ! (1 ∷ 0 ∷ []) $ frame ! $ done !
 
   -- what is owned on entry is lent
   begins : Req → ent 𝓤 (mean 𝓤 H A ((‵ (flft κ-g q-g) ⊛ ‵ (flft κ-out q-out) ⊛ ‵ (ftrue)) ⊛ ‵ (owns (MutRef (named 0) κ-g Group.the-row ∷ MutRef (named 1) κ-out (Array u8 32) ∷ u64 ∷ u64 ∷ []) handed vals))) (mean 𝓤 H A (later (some (λ (n-g : Names-g). raw (Core 𝓤 H A at-mem run .pre (to-core n-g)) ⊛ (Kept-g n-g)))))
@@ -166,7 +167,7 @@ module _ {M : Type 1} (𝓤 : URA M) (H : Heap 𝓤) (A : Atoms 𝓤) (W : Given
   exits : Req → (r : ℕ) (out·last : List ℕ) → Did r out·last → r < 2 ^ 8 → ent 𝓤 (⋆ 𝓤 H A (Ended out·last ∷ [])) (Post (vint w8 r))
   exits pre r out·last e r-fits =
       qed W (Ended out·last ∷ []) ∵
-      suffices ! _ (ends-at 𝓤 H A f.ended stayed (f.clauses 𝓤 H A at-mem run) W (((κ-g, (κ-out, tt)), (q-g, (q-out, tt)), tt, handed, vals), tt) (vint w8 r) r (g, (out·last, (tt, (tt, tt)))) (tt, (tt, (tt, (tt, tt))))) $ says ! ((slot-account-seen (tableOf g) pre position k e, refl)) $
+      suffices ! _ (ends-at 𝓤 H A f.ended stayed (f.clauses 𝓤 H A at-mem run) W (((κ-g, (κ-out, tt)), (q-g, (q-out, tt)), tt, handed, vals), tt) (vint w8 r) r (g, (out·last, (tt, (tt, tt)))) (tt, (tt, (tt, (tt, tt))))) $ says ! ((same-account (slot-account-seen (tableOf g) pre position k) e, refl)) $
       split ! $ move ! (1 ∷ []) $ split ! $ move ! (1 ∷ []) $ split ! $ move ! (1 ∷ []) $ split ! $ nothing ! $ move ! (2 ∷ 0 ∷ []) $ join ! $ move ! (2 ∷ 0 ∷ []) $ join ! $ frame ! $ nothing ! $ owned ! u64 (Is u64) (uint-makes 𝓤 H A W w64) k _ (refl, k-fits) $ fjoin ! $ owned ! u64 (Is u64) (uint-makes 𝓤 H A W w64) position _ (refl, position-fits) $ fjoin ! $ move ! (1 ∷ 0 ∷ []) $ fjoin ! $ feqI ! (List Val) (vptr b-g o-g ∷ []) (vptr b-g o-g ∷ []) refl $ move ! (0 ∷ 3 ∷ 2 ∷ []) $ fjoin3 ! $ fjoin ! $ owned ! u8 (Is u8) (uint-makes 𝓤 H A W w8) r _ (refl, r-fits) $ move ! (1 ∷ 0 ∷ []) $ done !
 
   module _ (C : Calls 𝓤 H) (Λ : Loops 𝓤 H) (fm : FmC 𝓤 H (W .laws) C) (known : Triple 𝓤 (C #core) (Core 𝓤 H A at-mem run)) where
@@ -209,4 +210,4 @@ lintelsong-group-slot-account-at-spec 𝓤 H 𝓜 𝓖 𝓡 =
     entered 𝓤 H (tripleOf 𝓤 H (𝓖 .A) f.signature (f.spec 𝓤 H (𝓖 .A) (𝓜 .mem) (𝓡 .run)))
     (tables 𝓤 H 𝓜 𝓡 code.env .C) (tables 𝓤 H 𝓜 𝓡 code.env .Λ) #export code.function (code.unfolded 𝓤 H 𝓜 𝓡)
     (lintelsong-group-slot-account-at-meets 𝓤 H (𝓖 .A) (givenOf 𝓤 H 𝓜 𝓖) (𝓜 .mem) (𝓡 .run) (tablesOf 𝓤 H 𝓜 (tables 𝓤 H 𝓜 𝓡 code.env))
-    (cited 𝓤 H (Core 𝓤 H (𝓖 .A) (𝓜 .mem) (𝓡 .run)) 𝓜 𝓡 code.env #core core-def.routine code.calls-export-group·cores·slot-account-at (core-thm.met 𝓤 H 𝓜 𝓖 𝓡)))
+    (cited 𝓤 H (Core 𝓤 H (𝓖 .A) (𝓜 .mem) (𝓡 .run)) 𝓜 𝓡 code.env #core core-def.routine code.calls-group-cores·slot-account-at (core-thm.met 𝓤 H 𝓜 𝓖 𝓡)))

@@ -39,7 +39,7 @@ use denote.Triple.Call.{calls-at}
 use denote.Triple.Clauses.{ensured, lasts}
 use denote.Triple.Table.{entered, cited}
 use denote.Triple.Walked.{says, needs, Stays, stay-ref, walkOf, goes-ref, Walks, ends-at, walked, walk-meets}
-use Rattle.merging.specs.Merges.{table}
+use Rattle.slots.specs.Table.{table}
 use Rattle.export_join.specs.Lent.{Joins}
 use Rattle.export_join.specs.Held.{tableOf, GoodGroup}
 use Rattle.export_join.specs.declared.Group.{Group}

@@ -3,7 +3,7 @@ use mathlib.Core.Path.{_≡_, sym, _∙_}
 use borrow.Author.Needs.{needs}
 use Rattle.queues.specs.Cols.{cols}
 use Rattle.entry_rules.specs.Calling.{Call}
-use Rattle.settle_rules.specs.Settling.{table}
+use Rattle.slots.specs.Table.{table}
 use Rattle.fill_rules.specs.Fills.{callOf, Keys, keys, codeOf}
 use Rattle.fills.proofs.Whole.{spoken, Called, may-decide, decided, refused, Taken, pass-needs, settle-needs, filled}
 use Rattle.fills.proofs.fill.Statement.{statement}

@@ -2,8 +2,7 @@
 -- nothing.
 use borrow.Author.Needs.{needs}
 use mathlib.Core.Path.{sym, _∙_}
-use Rattle.slots.specs.Table.{Table}
-use Rattle.merging.specs.Merges.{table}
+use Rattle.slots.specs.Table.{Table, table}
 use Rattle.merging.proofs.Merging.{Joinable, done-of, rooms, may-add, join-refused, join-taken}
 use Rattle.merging.proofs.join.Statement.{statement}
 use Rattle.merging.proofs.join.Tie as tie

@@ -4,7 +4,7 @@ use mathlib.Core.Path.{_≡_, refl, subst}
 use Rattle.message.specs.declared.Filter.{Filter}
 use Rattle.queues.specs.Cols.{cols}
 use Rattle.entry_rules.specs.Calling.{Call}
-use Rattle.settle_rules.specs.Settling.{table}
+use Rattle.slots.specs.Table.{table}
 use Rattle.fill_rules.specs.Fills.{callOf, Keys, Says, says, Left, Fills}
 use Rattle.export_fill.proofs.cores.fill.Statement.{statement}
 use Rattle.export_fill.proofs.cores.fill.Tie as tie

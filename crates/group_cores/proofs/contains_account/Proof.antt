@@ -1,0 +1,14 @@
+-- `contains_account` meets its contract: the answer of the read, as a number. Assumes nothing.
+use borrow.Author.Needs.{needs}
+use mathlib.Core.Path.{ap, _∙_}
+use Rattle.export_parts.specs.Parts.{bit}
+use Rattle.group_cores.proofs.contains_account.Statement.{statement}
+use Rattle.group_cores.proofs.contains_account.Tie as tie
+
+returns : tie.Need-returns
+returns c = c .bit-of .ensures ∙ ap bit (c .before .contains-account .ensures)
+
+pub contains-account-spec : {M : Type 1} → statement M
+contains-account-spec =
+    tie.close
+    (tie.spec (λ c κs. search needs) (λ c κs. search needs) returns)

@@ -1,0 +1,2 @@
+-- What the contracts of a group's exports cite.
+pub mod Told
