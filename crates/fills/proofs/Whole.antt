@@ -1,5 +1,6 @@
 -- A whole fill: what its parts need, from well formed columns, and what they leave together (crate fill_rules). Assumes nothing.
 use mathlib.Core.Path.{_≡_, refl, sym, ap, subst, _∙_}
+use mathlib.Core.Bool.{true}
 use mathlib.Core.List.{List}
 use Prim.Native.Nat.{ℕ, _+_, _-_, _*_, _/_, _≤_, min}
 use native.Mathlib.Nat.{div-add-mod'}
@@ -17,7 +18,7 @@ use Rattle.slots.specs.Meant.{groupOf}
 use Rattle.slots.specs.Good as slots
 use Rattle.skipped.specs.Sets.{GoodRows}
 use Rattle.entry.specs.Entry.{Sayings, sayings, Spoken}
-use Rattle.entry_rules.specs.Calling.{Call, GoodCall, args, setOf}
+use Rattle.entry_rules.specs.Calling.{Call, GoodCall, places, args, setOf}
 use Rattle.meaning.specs.Passes.{RanC}
 use Rattle.works.specs.Works.{ranW}
 use Rattle.works.specs.declared.Done.{Done}
@@ -29,6 +30,8 @@ use Rattle.fill_rules.proofs.CodeRule.{code-is, accepted-of}
 use Rattle.fill_rules.proofs.PassRule.{may-pass, passed}
 use Rattle.fill_rules.proofs.SettleRule.{may-settle}
 use Rattle.fill_rules.proofs.Ruled.{fills-taken, fills-refused}
+use Rattle.standstill.specs.Idle.{idleC}
+use Rattle.standstill.proofs.Still.{stands-still}
 
 -- the rows that all three columns have stand in them
 pub spoken : (set : List ℕ) (held : ℕ) (names verdicts costs : List ℕ) (cost : ℕ) → GoodRows held set
@@ -129,6 +132,13 @@ module _ {v : Call} {k : Keys} {rows : ℕ} {code : Code} (p : Taken v k rows co
       subst (λ (x : ℕ). MayPassBy x opens) (sym (c .rows-are))
           (subst (λ (x : ℕ). MayPassBy (v .said .n) x) (sym opens-are) (may-pass v good (accepted .slots-fit) (accepted .last-fits))),
     )
+
+    -- a fill with nothing to do has ended here
+    pub stood : idleC (places v) opens (v .height) (v .filter) (v .group .buckets) ≡ true
+        → Fills v k (says code 0 (places v) 0) (left (v .buffer) (v .group) (v .said .set) (v .said .k) k)
+    stood e =
+        let idle = subst (λ (o : ℕ). idleC (places v) o (v .height) (v .filter) (v .group .buckets) ≡ true) opens-are e in
+        fills-taken v good (c .set) k _ _ ran-so is-code (p .done) (stands-still v good idle code k) (p .decided)
 
     module _ (d : Done) (ran : ranW d ≡ passBy rows opens) where
       ran-is : ranW d ≡ ranOf v

@@ -1,5 +1,5 @@
-// The fill on lent columns: refused, or entry, passes and end one after the other. The buffer's columns come first, then the group's (with a
-// 2), the skipped set with how many accounts it holds, the arguments, and the key list.
+// The fill on lent columns: refused, or ended with nothing to do, or entry, passes and end one after the other. The buffer's columns come first,
+// then the group's (with a 2), the skipped set with how many accounts it holds, the arguments, and the key list.
 
 ghost use mathlib.Core.Path.{_≡_};
 ghost use lib.ListN.{length, getD};
@@ -165,6 +165,15 @@ pub fn fill(
         };
     }
     let opens = entry::to_open(asked as usize, numbers2[1] as usize);
+    let places = numbers[3];
+    if standstill::idle(places, opens, height as usize, filter, cells) {
+        return Answer {
+            code,
+            collected: 0,
+            operations: places,
+            dropped: 0,
+        };
+    }
     let done = pass(
         owner,
         kind,

@@ -93,7 +93,7 @@ module _ (h : Half) where
       ∙ omega (arith, r, q, count-split (λ j. t (messageIn h j)) i (h .messages) 0 (h .owner))
 
   -- the internals of the buffer are the kinds that are not 1
-  kinds-counted : h .messages ≤ length (h .owner) → h .messages ≤ length (h .kind) → ((i : ℕ) → i < h .messages → getD (h .owner) i 0 < h .places)
+  pub kinds-counted : h .messages ≤ length (h .owner) → h .messages ≤ length (h .kind) → ((i : ℕ) → i < h .messages → getD (h .owner) i 0 < h .places)
       → heldInts Real (bufferOf h) ≡ countI (λ i k. not (eqb k 1)) (h .messages) 0 (h .kind)
   unfolding heldInts internals orderOf
   kinds-counted a b l =

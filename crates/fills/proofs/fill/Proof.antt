@@ -1,11 +1,11 @@
--- `fills::fill` meets its contract: refused, or entry and passes, then the end (proofs/Whole.antt). Assumes nothing.
+-- `fills::fill` meets its contract: refused, or ended with nothing to do, or entry and passes, then the end (proofs/Whole.antt). Assumes nothing.
 use mathlib.Core.Path.{_≡_, sym, _∙_}
 use borrow.Author.Needs.{needs}
 use Rattle.queues.specs.Cols.{cols}
 use Rattle.entry_rules.specs.Calling.{Call}
 use Rattle.slots.specs.Table.{table}
 use Rattle.fill_rules.specs.Fills.{callOf, Keys, keys, codeOf}
-use Rattle.fills.proofs.Whole.{spoken, Called, may-decide, decided, refused, Taken, pass-needs, settle-needs, filled}
+use Rattle.fills.proofs.Whole.{spoken, Called, may-decide, decided, refused, Taken, stood, pass-needs, settle-needs, filled}
 use Rattle.fills.proofs.fill.Statement.{statement}
 use Rattle.fills.proofs.fill.Tie as tie
 
@@ -45,8 +45,11 @@ taken e = record {
 }
 
 -- from one call back to the one before it
+abbrev asked : tie.After-idle → tie.After-to-open
+asked c = c .before .before
+
 abbrev opened : tie.After-pass-arg12 → tie.After-to-open
-opened c = c .before .before .before .before .before .before .before .before .before .before .before .before
+opened c = asked (c .before .before .before .before .before .before .before .before .before .before .before .before .before)
 
 abbrev passed : tie.After-settle-arg25 → tie.After-pass
 passed c =
@@ -61,6 +64,11 @@ returns c =
     let d = c .before .before in
     refused (called (counted d)) (lent (start (counted d))) _ (code-is d) (λ e. c .if1 .taken (c .before .number-of .ensures ∙ e))
 
+returns-2 : tie.Need-returns-2
+returns-2 c =
+    let o = asked (c .before) in
+    stood (taken (o .before .before)) _ (o .to-open .ensures) (sym (c .before .idle .ensures) ∙ c .if2 .taken)
+
 pass-requires : tie.Need-pass-requires
 pass-requires c κs =
     let o = opened c in
@@ -72,8 +80,15 @@ settle-requires c κs =
     let o = opened (r .before) in
     settle-needs (taken (o .before .before)) _ (o .to-open .ensures) (r .pass .result) (r .pass .ensures)
 
-returns-2 : tie.Need-returns-2
-returns-2 c =
+-- the end keeps the lengths of the key list's columns
+same-length-5 : tie.Need-same-length-5
+same-length-5 c = c .before .before .before .before .before .settle .kept .1 .1 .1 .1 .1 .1 .1 .1 .1 .1 .1 .1 .1 .1 .1 .1 .1 .1 .1 .1 .1 .1 .1 .1 .1 .0
+
+same-length-6 : tie.Need-same-length-6
+same-length-6 c = c .before .before .before .before .before .settle .kept .1 .1 .1 .1 .1 .1 .1 .1 .1 .1 .1 .1 .1 .1 .1 .1 .1 .1 .1 .1 .1 .1 .1 .1 .1 .1 .0
+
+returns-3 : tie.Need-returns-3
+returns-3 c =
     let d = c .before .before .before .before .before in
     let r = passed (d .before) in
     let o = opened (r .before) in
@@ -83,4 +98,5 @@ pub fill-spec : {M : Type 1} → statement M
 fill-spec =
     tie.close
     (tie.spec (λ c κs. search needs) (λ c κs. search needs) decide-requires (λ c κs. search needs) (λ c. search needs) (λ c. search needs) returns
-    (λ c. search needs) (λ c κs. search needs) pass-requires settle-requires (λ c. search needs) (λ c. search needs) returns-2)
+    (λ c. search needs) (λ c κs. search needs) (λ c. search needs) (λ c κs. search needs) (λ c. search needs) (λ c. search needs) returns-2
+    pass-requires settle-requires same-length-5 same-length-6 returns-3)

@@ -1,0 +1,2 @@
+-- When a fill has nothing to do.
+pub mod Idle
