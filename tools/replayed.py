@@ -89,7 +89,7 @@ def lines(seed, index):
     good = ["buffer 3 2", "add 0 0 0 7 5 1", "add 1 0 0 8 6 2", "remove 7 8", "remove", "begin", "commit", "rollback", "full 2", "quiet", "loud",
             "rows", "row 1 0 5", "row 7 1 2", "cost 4", "set", "keys 2048", "keys 4", "times 3 add 0 0 0 7 5 1", "times 2 begin", "group 0 2", "group 1 64",
             "group 3 1", "fill 0 1 2 0 0", "fill 0 2 16 1 6", "times 3 fill 0 1 1 0 0", "join 0 1", "times 2 join 1 0", "isfilled 0 1 1", "isfilled 1 0 17",
-            "", "   ", "# all is well", " #x"]
+            "display 0", "display 1", "times 2 display 0", "", "   ", "# all is well", " #x"]
 
     def odd():
         words = d.of([g for g in good if g.strip() and "#" not in g]).split()

@@ -765,7 +765,7 @@ def walk(crate, fn, core, params, result, did, says='e', req=None, core_req='pre
 
 BUFFER = Struct('Buffer', [
     Field('owner', 16, 2048), Field('kind', 8, 2048), Field('form', 8, 2048), Field('time', 64, 2048),
-    Field('address', 8, 65536), Field('hash', 8, 65536), Field('accounts', 8, 16384), Field('numbers', 64, 16)])
+    Field('address', 8, 65536), Field('hash', 8, 65536), Field('accounts', 8, 16384), Field('numbers', 64, 528)])
 BUFFER_USES = '''
 use mathlib.Core.Path.{sym, _∙_}
 use lib.Dec.{leb}
@@ -801,7 +801,7 @@ def changes(name, rule, model, more=()):
     return on_buffer(name, name, [struct('b', BUFFER, 'all')] + list(more), 8, 'Gives (%s (meant (colsOf b))) (%s (colsOf b)) r after' % (rule, model), req='GoodBuffer b')
 
 
-def reads(name, shares, did, says, more=(), result=8, core_req='pre .sixteen'):
+def reads(name, shares, did, says, more=(), result=8, core_req='pre .many'):
     """A call that changes nothing of the buffer."""
     return on_buffer(name, name, [struct('b', BUFFER, shares=shares)] + list(more), result, did, says='(%s, refl)' % says, req='GoodBuffer b', core_req=core_req)
 
@@ -879,7 +879,7 @@ EXPORTS = [
         changes('begin', 'beginBy Real', 'beginC'),
         changes('rollback', 'rollbackBy Real', 'rollbackC'),
         on_buffer('commit', 'commit', [struct('b', BUFFER, 'numbers')], 8, 'Commits r (b .numbers) b·numbers',
-                  says='(committed (colsOf b) pre e)', req='GoodBuffer b', core_req='(pre .sixteen)'),
+                  says='(committed (colsOf b) pre e)', req='GoodBuffer b', core_req='(pre .many)'),
         reads('counts', 'numbers', '(r ≡ 0) × (out·last ≡ readAs (b .numbers))', 'e .0, e .1 ∙ ap listed (sym (counts-are (colsOf b) pre))',
               [mut_array('out', 64, 6)]),
         reads('has_min_ext_chain_time', 'numbers', 'r ≡ bit (marked (b .numbers) 7)', 'e ∙ ap bit (open-is (number (colsOf b) 7) (number (colsOf b) 6))'),
@@ -892,7 +892,7 @@ EXPORTS = [
               [number('limit', 64)]),
         reads('is_filled_by_slots', 'numbers', 'r ≡ 0', 'e ∙ slots-never'),
         reads('account_at', 'accounts numbers', 'Told r out·last (foundAccount (b .accounts) (b .numbers) place)', 'account-seen (colsOf b) place e',
-              [mut_array('out', 8, 32), number('place', 16)], core_req='(pre .sixteen, places-in (colsOf b) pre)'),
+              [mut_array('out', 8, 32), number('place', 16)], core_req='(pre .many, places-in (colsOf b) pre)'),
         reads('message_at', ROWS, 'ToldMessage r facts·last address·last hash·last (foundMessage %s place position)' % ' '.join('(b .%s)' % f for f in ROWS.split()),
               'message-seen (colsOf b) pre place position e',
               [mut_array('facts', 64, 4), mut_array('address', 8, 32), mut_array('hash', 8, 32), number('place', 16), number('position', 64)],
@@ -942,7 +942,7 @@ EXPORTS = [
              did='Joins (tableOf left) (tableOf right) r (table %s) (table %s)' % tuple(' '.join('%s·%s' % (g, f.name) for f in GROUP.fields) for g in ('left', 'right'))),
     ]),
     ('export_fill', [BUFFER, GROUP, SKIPPED], [
-        dict(fn='lintelsong_fill', core='cores.fill', result=8, req='GoodBuffer b × GoodGroup g × GoodSet s', params=[
+        dict(fn='lintelsong_fill', core='fill', home='fill_cores', result=8, req='GoodBuffer b × GoodGroup g × GoodSet s', params=[
             struct('b', BUFFER, 'all'), struct('g', GROUP, 'all'), struct('s', SKIPPED, 'all'), slice_('names', 8), slice_('verdicts', 8), slice_('costs', 64),
             mut_slice('lts', 64), mut_slice('hashes', 8), mut_array('out', 64, 3), number('slots', 64), number('height', 64), number('cost', 64),
             number('filtered', 8), number('below', 64)],
@@ -953,7 +953,7 @@ EXPORTS = [
 use Rattle.queues.specs.Cols.{cols}
 use Rattle.slots.specs.Table.{table}
 use Rattle.fill_rules.specs.Fills.{callOf, keys, left}
-use Rattle.export_fill.specs.Lent.{filterBy, FillsBy}
+use Rattle.fill_cores.specs.Lent.{filterBy, FillsBy}
 use Rattle.export_fill.specs.Held.{colsOf, tableOf, GoodBuffer, GoodGroup, GoodSet}
 '''),
     ]),

@@ -12,7 +12,7 @@ struct buffer {
     uint8_t address[65536];
     uint8_t hash[65536];
     uint8_t accounts[16384];
-    uint64_t numbers[16];
+    uint64_t numbers[528];
 };
 static_assert(offsetof(struct buffer, owner) == 0, "buffer.owner");
 static_assert(offsetof(struct buffer, kind) == 4096, "buffer.kind");

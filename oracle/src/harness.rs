@@ -60,6 +60,7 @@ pub enum Answer {
         by_count: bool,
         by_slots: bool,
     },
+    Display(String),
 }
 
 impl World {
@@ -85,7 +86,7 @@ impl World {
         match command {
             Command::Fill(ask) => ask.group < held,
             Command::Join { left, right } => *left < held && *right < held,
-            Command::IsFilled { group, .. } => *group < held,
+            Command::IsFilled { group, .. } | Command::Display { group } => *group < held,
             Command::Times(_, repeated) => self.knows(repeated),
             _ => true,
         }
@@ -110,6 +111,7 @@ impl World {
                 demand::answers(|| group.check_is_filled(slots, height)).map(Answer::IsFilled)
             }
             Command::Full(most) => self.full(*most),
+            Command::Display { group } => self.display(*group),
             Command::Times(count, repeated) => {
                 for _ in 1..*count {
                     self.run(repeated)?;
@@ -211,6 +213,13 @@ impl World {
             demand::panics(code, || call(&mut copy))?;
         }
         Ok(code)
+    }
+
+    /// The original's own line, which has to say the group's numbers.
+    fn display(&self, group: usize) -> Result<Answer, Broken> {
+        let group = &self.groups[group].group;
+        demand::display_agrees(group)?;
+        demand::answers(|| group.display_line()).map(Answer::Display)
     }
 
     fn full(&self, most: u64) -> Result<Answer, Broken> {

@@ -89,6 +89,7 @@ impl Page {
                 self.text("full ").flag(*by_count);
                 self.text(" canfill ").flag(*by_slots)
             }
+            Answer::Display(line) => self.text(line),
         };
         self.text("\n");
     }

@@ -57,6 +57,9 @@ pub enum Command {
     Quiet,
     Loud,
     Times(u64, Box<Command>),
+    Display {
+        group: usize,
+    },
 }
 
 /// A line, read.
@@ -121,6 +124,9 @@ fn command<'a>(name: &[u8], words: impl Iterator<Item = &'a [u8]>) -> Option<Com
         (b"full", &[most]) => Command::Full(most),
         (b"quiet", []) => Command::Quiet,
         (b"loud", []) => Command::Loud,
+        (b"display", &[group]) => Command::Display {
+            group: place(group)?,
+        },
         _ => return None,
     };
     Some(command)

@@ -13,7 +13,7 @@ pub struct BufferState {
     address: [u8; 65536],
     hash: [u8; 65536],
     accounts: [u8; 16384],
-    numbers: [u64; 16],
+    numbers: [u64; 528],
 }
 
 #[repr(C)]
@@ -40,7 +40,7 @@ pub struct SkippedState {
 }
 
 const _: () = assert!(size_of::<usize>() == 8);
-const _: () = assert!(size_of::<BufferState>() == 172160);
+const _: () = assert!(size_of::<BufferState>() == 176256);
 const _: () = assert!(align_of::<BufferState>() == 8);
 const _: () = assert!(offset_of!(BufferState, owner) == 0);
 const _: () = assert!(offset_of!(BufferState, kind) == 4096);

@@ -3,7 +3,7 @@
 use mathlib.Core.Path.{_≡_, refl, sym, ap, _∙_}
 use mathlib.Core.Bool.{Bool, true, false, cond, _&&_}
 use mathlib.Core.List.{List}
-use Prim.Native.Nat.{ℕ, _≤_, _<_}
+use Prim.Native.Nat.{ℕ, _+_, _*_, _≤_, _<_}
 use native.Mathlib.Omega.{arith}
 use lib.Dec.{leb, ltb}
 use lib.ListN.{length, getD}
@@ -12,17 +12,20 @@ use Rattle.numbers.proofs.Bytes.{byBool}
 use Rattle.columns.specs.Rows.{rowsOf}
 use Rattle.columns.proofs.Index.{index-le}
 use Rattle.columns.proofs.Rows.{length-rows}
+use Rattle.index.specs.Names.{indexedBy}
 use Rattle.message.specs.declared.Code.{Code}
 use Rattle.message.specs.declared.Code.the-variants.{Done, Special, WrongKind, Full, Crowded}
 use Rattle.message.specs.declared.Message.{Message}
 use Rattle.message.specs.Answers.{number as numberOf}
 use Rattle.message.specs.Records.{accountOf}
 use Rattle.queues.specs.Cols.{Cols, cols, live, number}
+use Rattle.queues.specs.Indexed.{indexedC}
 use Rattle.queues.specs.Good.{Good}
 use Rattle.queues.specs.Look.{seatOf}
-use Rattle.queues.specs.Append.{left, onlyDone, addCodeC, countedC, seatedC, appendedC, addC}
+use Rattle.queues.specs.Append.{left, onlyDone, addCodeC, more, countedC, seatedC, appendedC, addC}
 use Rattle.queues.proofs.Counts.{ints-few, exts-few}
-use Rattle.append.specs.Rows.{Countable, Seatable, Writable, Written}
+use Rattle.append.specs.Rows.{Countable, Seatable, SeatedIn, enteredC, Writable, Written}
+use Rattle.append.proofs.Naming.{counted-length, counted-index, named}
 
 -- neither of the two last tests held
 open-room : (special wrong full crowded : Bool)
@@ -84,14 +87,27 @@ module _ {m : Message} {c : Cols} {x : List ℕ} {seat : ℕ} {code : Code} (d :
         hash = l .hash;
       }
 
-  pub seatable : length x ≡ 32 → Seatable seat (number c 3) (length x) (length (c .accounts))
-  seatable e = record { low = low; row = e; table = good .lengths .accounts }
+  pub seatable : {ns : List ℕ} → length x ≡ 32 → ns ≡ countedC (m .kind) (m .time) seat (c .numbers)
+      → Seatable seat (number c 3) (length x) (length (c .accounts)) (length ns)
+  seatable wide e = record {
+    low = low;
+    row = wide;
+    table = good .lengths .accounts;
+    many = ap length e ∙ counted-length (m .kind) (m .time) seat (c .numbers) ∙ good .many;
+  }
+
+  -- the seat is behind the last at the most, and then there is room for the name
+  seat-last : seat ≤ number c 3
+  seat-last = omega (arith, d .found, index-le x x (rowsOf (number c 3) (c .accounts)), length-rows (number c 3) (c .accounts))
+
+  room : number c 3 ≤ seat → 32 * number c 3 + 32 ≤ length (c .accounts)
+  room l = omega (arith, low, good .lengths .accounts)
 
   pub countable : Countable (c .numbers)
   countable =
       let l : number c 2 ≤ length (c .owner) = omega (arith, next, good .lengths .owner) in
       record {
-        many = good .sixteen;
+        many = good .many;
         messages = omega (arith, next);
         places = omega (arith, good .now .places, good .A·high);
         ints = omega (arith, next, ints-few (live c) (good .now) l);
@@ -101,13 +117,13 @@ module _ {m : Message} {c : Cols} {x : List ℕ} {seat : ℕ} {code : Code} (d :
 -- ---- the answer
 
 -- the columns that the steps leave, one by one
-rows : (m : Message) (c : Cols) (seat : ℕ) {owner kind form time address hash accounts numbers : List ℕ}
+rows : (m : Message) (c : Cols) (seat places : ℕ) {owner kind form time address hash accounts numbers : List ℕ}
     → Written m seat (number c 2) (c .owner) (c .kind) (c .form) (c .time) (c .address) (c .hash) owner kind form time address hash
     → accounts ≡ seatedC seat (number c 3) (accountOf m) (c .accounts)
-    → numbers ≡ countedC (m .kind) (m .time) seat (c .numbers)
-    → cols owner kind form time address hash accounts numbers ≡ appendedC m seat c
-unfolding appendedC
-rows m c seat w a n i = record {
+    → numbers ≡ indexedBy places (seatedC seat (number c 3) (accountOf m) (c .accounts)) (countedC (m .kind) (m .time) seat (c .numbers))
+    → cols owner kind form time address hash accounts numbers ≡ indexedC places (appendedC m seat c)
+unfolding appendedC indexedC
+rows m c seat places w a n i = record {
   owner = w .owner i;
   kind = w .kind i;
   form = w .form i;
@@ -118,22 +134,35 @@ rows m c seat w a n i = record {
   numbers = n i;
 }
 
+-- how many accounts there are with one at this seat
+abbrev placesWith : Cols → ℕ → ℕ
+placesWith c seat = more (leb (number c 3) seat) (number c 3)
+
 module _ {m : Message} {c : Cols} {x : List ℕ} {seat : ℕ} {code : Code} (d : Decided m c x seat code) where
   -- at the seat found
-  answer : onlyDone code (appendedC m seat c) c ≡ addC m c
+  answer : onlyDone code (indexedC (placesWith c seat) (appendedC m seat c)) c ≡ addC m c
   unfolding addC
   answer =
-      ap (λ (k : Code). onlyDone k (appendedC m seat c) c) (d .decision)
-      ∙ ap (λ (s : ℕ). onlyDone (addCodeC m s (c .numbers)) (appendedC m s c) c) (d .found ∙ ap (seatOf (c .accounts) (number c 3)) (d .account))
+      ap (λ (k : Code). onlyDone k (indexedC (placesWith c seat) (appendedC m seat c)) c) (d .decision)
+      ∙ ap (λ (s : ℕ). onlyDone (addCodeC m s (c .numbers)) (indexedC (placesWith c s) (appendedC m s c)) c)
+      (d .found ∙ ap (seatOf (c .accounts) (number c 3)) (d .account))
 
   pub refused : (numberOf code ≡ 0 → ⊥) → left code c ≡ addC m c
   refused n = rw (ne-eqb (numberOf code) 0 n) at answer
 
-  pub taken : {owner kind form time address hash accounts numbers : List ℕ} → numberOf code ≡ 0
+  pub taken : {owner kind form time address hash accounts numbers ns : List ℕ} → (done : numberOf code ≡ 0) → Good c → length x ≡ 32
       → Written m seat (number c 2) (c .owner) (c .kind) (c .form) (c .time) (c .address) (c .hash) owner kind form time address hash
-      → accounts ≡ seatedC seat (number c 3) x (c .accounts)
-      → numbers ≡ countedC (m .kind) (m .time) seat (c .numbers)
+      → ns ≡ countedC (m .kind) (m .time) seat (c .numbers)
+      → SeatedIn seat (number c 3) x (c .accounts) ns accounts numbers
       → left code (cols owner kind form time address hash accounts numbers) ≡ addC m c
-  taken done w a n =
-      let r = rows m c seat w (a ∙ ap (λ (y : List ℕ). seatedC seat (number c 3) y (c .accounts)) (d .account)) n in
+  taken {ns = ns} done good wide w n s =
+      let counted = countedC (m .kind) (m .time) seat (c .numbers) in
+      let index = counted-index (m .kind) (m .time) seat (c .numbers) ∙ good .index in
+      let entered = named seat (number c 3) x (c .accounts) counted wide (seat-last d done good) (room d done good) index in
+      let r = rows m c seat (placesWith c seat) w
+      (s .accounts ∙ ap (λ (y : List ℕ). seatedC seat (number c 3) y (c .accounts)) (d .account))
+      (s .numbers
+      ∙ ap (enteredC seat (number c 3) x) n
+      ∙ entered
+      ∙ ap (λ (y : List ℕ). indexedBy (placesWith c seat) (seatedC seat (number c 3) y (c .accounts)) counted) (d .account)) in
       ap (left code) r ∙ rw (eq-eqb (numberOf code) 0 done) at answer

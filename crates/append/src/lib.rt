@@ -1,11 +1,11 @@
-// An add: the decision, the next row, the account's seat, and the numbers. Nothing large is copied, and a refusal writes nothing.
+// An add: the account found by the index, the decision, the next row, the numbers, and the account's seat. Nothing large is copied, and a refusal writes nothing.
 ghost use mathlib.Core.Path.{_≡_};
 ghost use Prim.Native.Nat.{_<_};
 ghost use lib.ListN.{length};
 ghost use Rattle.queues.specs.Cols.{cols};
 ghost use Rattle.queues.specs.Good.{Good};
-ghost use Rattle.queues.specs.Append.{left, more as moreOf, lowest as lowestOf, addCodeC, countedC, seatedC, addC};
-ghost use Rattle.append.specs.Rows.{Countable, Seatable, Writable, Written};
+ghost use Rattle.queues.specs.Append.{left, more as moreOf, lowest as lowestOf, addCodeC, countedC, addC};
+ghost use Rattle.append.specs.Rows.{Countable, Seatable, SeatedIn, Writable, Written};
 use message::Code;
 use message::Message;
 
@@ -31,8 +31,8 @@ fn lowest(marked: u64, least: u64, t: u64) -> u64
 }
 
 // Whether an add is taken, and why not: codes 2 to 5, the lowest that fits. `seat` is the place of the account, or the number of places.
-fn decide(m: Message, seat: usize, numbers: &[u64; 16]) -> Code
-    requires { ⌜ length (now numbers) ≡ 16 ⌝ }
+fn decide(m: Message, seat: usize, numbers: &[u64; 528]) -> Code
+    requires { ⌜ length (now numbers) ≡ 528 ⌝ }
     ensures { λ r. ⌜ r ≡ addCodeC m seat (now (numbers .entry)) ⌝ }
 {
     if m.special {
@@ -53,7 +53,7 @@ fn decide(m: Message, seat: usize, numbers: &[u64; 16]) -> Code
 }
 
 // Counts one message more, of this kind and time, at this seat.
-fn count_in(kind: u8, time: u64, seat: usize, numbers: &mut [u64; 16])
+fn count_in(kind: u8, time: u64, seat: usize, numbers: &mut [u64; 528])
     requires { ⌜ Countable (now numbers) ⌝ }
     ensures { λ _. ⌜ now (numbers .exit) ≡ countedC kind time seat (now (numbers .entry)) ⌝ }
 {
@@ -76,13 +76,20 @@ fn count_in(kind: u8, time: u64, seat: usize, numbers: &mut [u64; 16])
     numbers[7] = if external { 1 } else { marked };
 }
 
-// Gives the account x the seat behind the last, if that is its seat.
-fn seat_in(seat: usize, places: usize, x: &[u8; 32], accounts: &mut [u8; 16384])
-    requires { ⌜ Seatable seat places (length (now x)) (length (now accounts)) ⌝ }
-    ensures { λ _. ⌜ now (accounts .exit) ≡ seatedC seat places (now (x .entry)) (now (accounts .entry)) ⌝ }
+// Gives the account x the seat behind the last, if that is its seat, and enters its name in the index.
+fn seat_in(
+    seat: usize,
+    places: usize,
+    x: &[u8; 32],
+    accounts: &mut [u8; 16384],
+    numbers: &mut [u64; 528],
+)
+    requires { ⌜ Seatable seat places (length (now x)) (length (now accounts)) (length (now numbers)) ⌝ }
+    ensures { λ _. ⌜ SeatedIn seat places (now (x .entry)) (now (accounts .entry)) (now (numbers .entry)) (now (accounts .exit)) (now (numbers .exit)) ⌝ }
 {
     if places <= seat {
         columns::put_row(accounts, seat, x);
+        index::enter(x, seat, numbers);
     }
 }
 
@@ -122,7 +129,7 @@ pub fn add(
     address: &mut [u8; 65536],
     hash: &mut [u8; 65536],
     accounts: &mut [u8; 16384],
-    numbers: &mut [u64; 16],
+    numbers: &mut [u64; 528],
 ) -> Code
     requires { ⌜ Good (cols (now owner) (now kind) (now form) (now time) (now address) (now hash) (now accounts) (now numbers)) ⌝ }
     ensures { λ r. ⌜ left r (cols (now (owner .exit)) (now (kind .exit)) (now (form .exit)) (now (time .exit)) (now (address .exit)) (now (hash .exit)) (now (accounts .exit)) (now (numbers .exit))) ≡ addC m (cols (now (owner .entry)) (now (kind .entry)) (now (form .entry)) (now (time .entry)) (now (address .entry)) (now (hash .entry)) (now (accounts .entry)) (now (numbers .entry))) ⌝ }
@@ -130,12 +137,12 @@ pub fn add(
     let n = numbers[2] as usize;
     let places = numbers[3] as usize;
     let x = message::account(m);
-    let seat = columns::find_row(accounts, places, &x);
+    let seat = index::find(accounts, places, numbers, &x);
     let code = decide(m, seat, numbers);
     if message::number_of(code) == 0 {
         write_row(m, seat, n, owner, kind, form, time, address, hash);
-        seat_in(seat, places, &x, accounts);
         count_in(m.kind, m.time, seat, numbers);
+        seat_in(seat, places, &x, accounts, numbers);
     }
     code
 }

@@ -1,5 +1,5 @@
 // The bucket index of a group: for each count of messages from 0 to 16 the numbers of the slots listed there, in the order they came. A
-// bucket is 64 cells of one array, which goes from call to call by value.
+// bucket is 64 cells of one array, which goes from call to call by value; the steps of one update work on the copy that it holds.
 use numbers::SlotId;
 ghost use mathlib.Core.Path.{_≡_};
 ghost use Prim.Native.Nat.{_<_};
@@ -20,9 +20,9 @@ pub fn fresh() -> [u32; 1088]
 }
 
 // How many slots bucket c lists.
-pub fn listed(buckets: [u32; 1088], c: usize) -> usize
-    requires { ⌜ c < 17 ⌝ }
-    ensures { λ r. ⌜ r ≡ length (bucketOf buckets c) ⌝ }
+pub fn listed(buckets: &[u32; 1088], c: usize) -> usize
+    requires { ⌜ (length (now buckets) ≡ 1088) × (c < 17) ⌝ }
+    ensures { λ r. ⌜ r ≡ length (bucketOf (now (buckets .entry)) c) ⌝ }
 {
     let base = 64 * c;
     let mut k: usize = 0;
@@ -44,19 +44,18 @@ pub fn entry(buckets: [u32; 1088], c: usize, k: usize) -> u32
 }
 
 // Lists a slot last in bucket c.
-pub fn put_last(mut buckets: [u32; 1088], c: usize, number: SlotId) -> [u32; 1088]
-    requires { ⌜ MayPut buckets c (number .0) ⌝ }
-    ensures { λ r. ⌜ Leaves (putLast c (number .0) (index buckets)) r ⌝ }
+pub fn put_last(buckets: &mut [u32; 1088], c: usize, number: SlotId)
+    requires { ⌜ MayPut (now buckets) c (number .0) ⌝ }
+    ensures { λ _. ⌜ Leaves (putLast c (number .0) (index (now (buckets .entry)))) (now (buckets .exit)) ⌝ }
 {
     let k = listed(buckets, c);
     buckets[64 * c + k] = number.0 as u32;
-    buckets
 }
 
 // Takes a slot out of bucket c, where it is listed there: those behind it move up.
-pub fn take_out(mut buckets: [u32; 1088], c: usize, number: SlotId) -> [u32; 1088]
-    requires { ⌜ GoodBuckets buckets × (c < 17) ⌝ }
-    ensures { λ r. ⌜ Leaves (takenOut c (number .0) (index buckets)) r ⌝ }
+pub fn take_out(buckets: &mut [u32; 1088], c: usize, number: SlotId)
+    requires { ⌜ GoodBuckets (now buckets) × (c < 17) ⌝ }
+    ensures { λ _. ⌜ Leaves (takenOut c (number .0) (index (now (buckets .entry)))) (now (buckets .exit)) ⌝ }
 {
     let base = 64 * c;
     let gone = number.0 as u32;
@@ -74,7 +73,6 @@ pub fn take_out(mut buckets: [u32; 1088], c: usize, number: SlotId) -> [u32; 108
         buckets[base + w] = NONE;
         w += 1;
     }
-    buckets
 }
 
 // Whether every bucket below the height is empty.

@@ -44,7 +44,7 @@ module _ (kind time seat : ℕ) (ns : List ℕ) where
       let no : (i : ℕ) → 2 ≤ i → i ≤ 7 → eqb j i ≡ false = λ i a b. ne-eqb j i (λ e. n (omega arith) (omega arith)) in
       simp (away, no 2 (omega arith) (omega arith), no 3 (omega arith) (omega arith), no 4 (omega arith) (omega arith), no 5 (omega arith) (omega arith), no 6 (omega arith) (omega arith), no 7 (omega arith) (omega arith))
 
-  module _ (e : length ns ≡ 16) where
+  module _ (e : length ns ≡ 528) where
     pub counted-2 : getD (countedC kind time seat ns) 2 0 ≡ getD ns 2 0 + 1
     unfolding countedC
     counted-2 = simp (away, here, e)

@@ -27,10 +27,11 @@ use Rattle.message.proofs.Real.{real-lawful}
 use Rattle.records.specs.Records.{formByte}
 use Rattle.queues.specs.Cols.{Cols, Half, number, live}
 use Rattle.queues.specs.Meant.{orderOf, bufferOf}
-use Rattle.queues.specs.Good.{Long, GoodHalf, Blank, Good}
+use Rattle.queues.specs.Good.{Long, GoodHalf, Blank, Formed, Good}
 use Rattle.queues.specs.Append.{addCodeC, more, lowest, appendedC, seatC, addC}
-use Rattle.buffer_rules.proofs.AddCells.{counted-length, counted-4, counted-5, counted-6, counted-7, seated-length, seated-behind}
-use Rattle.buffer_rules.proofs.AddRule.{Taken, taken, after, small, seat-last, wide, address-fits, hash-fits, accounts-fit, rest, kept-same, one-more, places-more, buffer-more}
+use Rattle.queues.proofs.Indexing.{good-indexed}
+use Rattle.buffer_rules.proofs.AddCells.{counted-4, counted-5, counted-6, counted-7, seated-length, seated-behind}
+use Rattle.buffer_rules.proofs.AddRule.{Taken, taken, placesAfter, after, many, small, seat-last, wide, address-fits, hash-fits, accounts-fit, rest, kept-same, one-more, places-more, buffer-more}
 
 -- ---- facts of numbers
 
@@ -123,7 +124,7 @@ module _ {m : Message} {c : Cols} (t : Taken m c) where
   ints-more : number (after m c) 4 ≡ heldInts Real (bufferOf (live (after m c)))
   unfolding appendedC heldInts internals add
   ints-more =
-      counted-4 (m .kind) (m .time) (seatC m c) (c .numbers) (t .good .sixteen)
+      counted-4 (m .kind) (m .time) (seatC m c) (c .numbers) (t .good .many)
       ∙ ap (λ (b : Bool). more b (number c 4)) (other-kind (m .kind) (t .kind))
       ∙ count-one (λ x. not (eqb (x .kind) 1)) m (number c 4) _ (t .good .now .ints)
       ∙ sym (ap (heldInts Real) (buffer-more t) ∙ num-give Real real-lawful (λ x. not (eqb (x .kind) 1)) (accountOf m) (m ∷ []) (orderOf (live c)))
@@ -131,15 +132,15 @@ module _ {m : Message} {c : Cols} (t : Taken m c) where
   exts-more : number (after m c) 5 ≡ heldExts Real (bufferOf (live (after m c)))
   unfolding appendedC heldExts externals add
   exts-more =
-      counted-5 (m .kind) (m .time) (seatC m c) (c .numbers) (t .good .sixteen)
+      counted-5 (m .kind) (m .time) (seatC m c) (c .numbers) (t .good .many)
       ∙ count-one (λ x. eqb (x .kind) 1) m (number c 5) _ (t .good .now .exts)
       ∙ sym (ap (heldExts Real) (buffer-more t) ∙ num-give Real real-lawful (λ x. eqb (x .kind) 1) (accountOf m) (m ∷ []) (orderOf (live c)))
 
   marks : (number (after m c) 7 ≡ cond (eqb (m .kind) 1) 1 (number c 7)) × (number (after m c) 6 ≡ cond (eqb (m .kind) 1) (lowest (number c 7) (number c 6) (m .time)) (number c 6))
   unfolding appendedC
   marks = (
-    counted-7 (m .kind) (m .time) (seatC m c) (c .numbers) (t .good .sixteen),
-    counted-6 (m .kind) (m .time) (seatC m c) (c .numbers) (t .good .sixteen),
+    counted-7 (m .kind) (m .time) (seatC m c) (c .numbers) (t .good .many),
+    counted-6 (m .kind) (m .time) (seatC m c) (c .numbers) (t .good .many),
   )
 
   form-new : getD (after m c .form) (number c 2) 0 ≡ formByte (m .form)
@@ -171,11 +172,8 @@ module _ {m : Message} {c : Cols} (t : Taken m c) where
         tidy = subst (TidyBuffer Real) (sym (buffer-more t)) (buffer-add Real real-lawful (accountOf m) m (bufferOf (live c)) (g .tidy));
       }
 
-  sixteen : length (after m c .numbers) ≡ 16
-  unfolding appendedC
-  sixteen = counted-length (m .kind) (m .time) (seatC m c) (c .numbers) ∙ t .good .sixteen
-
-  good-after : Good (after m c)
+  -- but for the index, which is made anew
+  good-after : Formed (Unit {0}) (after m c)
   good-after =
       let g = t .good in
       let M : number (after m c) 0 ≡ number c 0 = rest t 0 (λ a b. omega arith) in
@@ -183,7 +181,7 @@ module _ {m : Message} {c : Cols} (t : Taken m c) where
       let opened : number (after m c) 8 ≡ number c 8 = rest t 8 (λ a b. omega arith) in
       record {
         lengths = long;
-        sixteen = sixteen;
+        many = many t;
         M·low = omega (arith, g .M·low);
         M·high = omega (arith, g .M·high);
         A·low = omega (arith, g .A·low);
@@ -192,11 +190,12 @@ module _ {m : Message} {c : Cols} (t : Taken m c) where
         blank = blank;
         opened = omega (arith, g .opened);
         then = λ e. good-half-same M A (kept-same t) (g .then (sym opened ∙ e));
+        index = tt;
       }
 
 pub add-good : (m : Message) (c : Cols) → Good c → length (m .address) ≡ 32 → length (m .hash) ≡ 32 → Good (addC m c .cols)
 unfolding addC
 add-good m c g wa wh =
     byBool (eqb (numberOf (addCodeC m (seatC m c) (c .numbers))) 0)
-    (λ e. rw e (good-after (taken m c g wa wh (eqb-true _ 0 e))))
+    (λ e. let t = taken m c g wa wh (eqb-true _ 0 e) in rw e (good-indexed (placesAfter m c) (after m c) (places-more t) (good-after t)))
     (λ e. rw e g)

@@ -26,12 +26,14 @@ use Rattle.message.specs.Real.{Real, offer}
 use Rattle.records.specs.Records.{formByte, formOf}
 use Rattle.queues.specs.Cols.{Cols, number, live, kept}
 use Rattle.queues.specs.Meant.{ifMarked, orderOf, bufferOf, meant}
+use Rattle.queues.specs.Indexed.{indexedC}
 use Rattle.queues.specs.Good.{Good}
 use Rattle.queues.specs.Append.{addCodeC, more, appendedC, seatC, addC}
 use Rattle.queues.proofs.Counts.{all-counted}
+use Rattle.queues.proofs.Indexing.{meant-indexed}
 use Rattle.buffer_rules.specs.Ruled.{answerOf}
 use Rattle.buffer_rules.proofs.AddOrder.{seat-le, has-seat, OneMore, order-old, order-new}
-use Rattle.buffer_rules.proofs.AddCells.{counted-rest, counted-2, counted-3, counted-6, counted-7, least-more, wide-account, form-back, row-before, row-laid, seated-before, seated-new, seated-drop}
+use Rattle.buffer_rules.proofs.AddCells.{counted-length, counted-rest, counted-2, counted-3, counted-6, counted-7, least-more, wide-account, form-back, row-before, row-laid, seated-before, seated-new, seated-drop}
 
 -- ---- the code
 
@@ -97,6 +99,10 @@ module _ (m : Message) (c : Cols) (g : Good c) where
 
 -- ---- the columns with the message
 
+-- how many accounts there are then
+abbrev pub placesAfter : Message → Cols → ℕ
+placesAfter m c = more (leb (number c 3) (seatC m c)) (number c 3)
+
 abbrev pub after : Message → Cols → Cols
 after m c = appendedC m (seatC m c) c
 
@@ -122,6 +128,13 @@ module _ {m : Message} {c : Cols} (t : Taken m c) where
 
   pub accounts-fit : number c 3 ≤ seatC m c → 32 * number c 3 + 32 ≤ length (c .accounts)
   accounts-fit l = omega (arith, few l, t .good .lengths .accounts)
+
+  pub many : length (after m c .numbers) ≡ 528
+  unfolding appendedC
+  many = counted-length (m .kind) (m .time) (seatC m c) (c .numbers) ∙ t .good .many
+
+  enough : 16 ≤ length (after m c .numbers)
+  enough = omega (arith, many)
 
   pub rest : (j : ℕ) → (2 ≤ j → j ≤ 7 → ⊥) → number (after m c) j ≡ number c j
   unfolding appendedC
@@ -150,7 +163,7 @@ module _ {m : Message} {c : Cols} (t : Taken m c) where
   one-more =
       let owners : number c 2 < length (c .owner) = omega (arith, small, t .good .lengths .owner) in
       record {
-        messages = counted-2 (m .kind) (m .time) (seatC m c) (c .numbers) (t .good .sixteen) ∙ add-one (number c 2);
+        messages = counted-2 (m .kind) (m .time) (seatC m c) (c .numbers) (t .good .many) ∙ add-one (number c 2);
         rows = record {
           long = simp length-set (omega arith);
           long′ = omega arith;
@@ -174,9 +187,9 @@ module _ {m : Message} {c : Cols} (t : Taken m c) where
         };
       }
 
-  pub places-more : number (after m c) 3 ≡ more (leb (number c 3) (seatC m c)) (number c 3)
+  pub places-more : number (after m c) 3 ≡ placesAfter m c
   unfolding appendedC
-  places-more = counted-3 (m .kind) (m .time) (seatC m c) (c .numbers) (t .good .sixteen)
+  places-more = counted-3 (m .kind) (m .time) (seatC m c) (c .numbers) (t .good .many)
 
   order-more : orderOf (live (after m c)) ≡ give Real (accountOf m) (m ∷ []) (orderOf (live c))
   unfolding appendedC
@@ -191,7 +204,7 @@ module _ {m : Message} {c : Cols} (t : Taken m c) where
       ≡ cond (eqb (m .kind) 1) (lowered (ifMarked (number c 7) (number c 6)) (m .time)) (ifMarked (number c 7) (number c 6))
   unfolding appendedC
   least-is =
-      (λ i. ifMarked (counted-7 (m .kind) (m .time) (seatC m c) (c .numbers) (t .good .sixteen) i) (counted-6 (m .kind) (m .time) (seatC m c) (c .numbers) (t .good .sixteen) i))
+      (λ i. ifMarked (counted-7 (m .kind) (m .time) (seatC m c) (c .numbers) (t .good .many) i) (counted-6 (m .kind) (m .time) (seatC m c) (c .numbers) (t .good .many) i))
       ∙ least-more (eqb (m .kind) 1) (number c 7) (number c 6) (m .time)
 
   pub buffer-more : bufferOf (live (after m c)) ≡ add Real (accountOf m) m (bufferOf (live c))
@@ -217,5 +230,5 @@ pub add-is : (m : Message) (c : Cols) → Good c → length (m .address) ≡ 32 
 unfolding addC addMessage answer
 add-is m c g wa wh = λ i. record {
   code = code-is m c g i;
-  after = carried meant _ _ (after m c) c _ (code-is m c g) (λ e. meant-more (taken m c g wa wh e)) i;
+  after = carried meant _ _ (indexedC (placesAfter m c) (after m c)) c _ (code-is m c g) (λ e. let t = taken m c g wa wh e in meant-indexed (placesAfter m c) (after m c) (enough t) ∙ meant-more t) i;
 }

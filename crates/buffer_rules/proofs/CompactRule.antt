@@ -20,10 +20,10 @@ use Rattle.columns.proofs.Gathers.{rank-le, rank-less, rank-eqb, pick-gather}
 use Rattle.columns.proofs.Packed.{length-packed, packed-kept}
 use Rattle.columns.proofs.PackedRows.{length-packed-rows}
 use Rattle.message.specs.declared.Message.{Message}
-use Rattle.queues.specs.Cols.{Cols, Half, kept, number}
+use Rattle.queues.specs.Cols.{Cols, Half, kept, number, withNumbers}
 use Rattle.queues.specs.Meant.{messageIn, rowIn, orderOf}
 use Rattle.queues.specs.Good.{Long, Zeros, Blank}
-use Rattle.queues.specs.Compact.{newPlace, movedC, packedC, compactC, withNumbers}
+use Rattle.queues.specs.Compact.{newPlace, movedC, packedC, compactC}
 use Rattle.buffer_rules.proofs.Packs.{rank-cong, tab-kept, gather-kept, drop-mapI, packed-each, packed-free, packed-drop, row-kept, rows-packed-drop, rows-packed-free}
 
 -- the live half of columns that hold n messages and a accounts, as far as its order goes

@@ -6,15 +6,16 @@ use Prim.Native.Nat.{ℕ, _+_, _*_, _<_, _≤_}
 use native.Mathlib.Nat.{zero-add}
 use native.Mathlib.Omega.{arith}
 use lib.Dec.{ltb}
-use lib.ListN.{length, getD, set, take, drop, replicate, length-drop, length-set, length-replicate, getD-replicate}
-use lib.Seq.{length-take-le, getD-take, getD-drop, getD-set-same, getD-set-other, ext-getD}
+use lib.ListN.{length, getD, set, drop, replicate, length-drop, length-set, length-replicate, getD-replicate}
+use lib.Seq.{getD-drop, getD-set-same, getD-set-other, drop-set-lt, ext-getD}
 use borrow.Author.Tests.{ltb-true, ltb-false}
 use Rattle.numbers.proofs.Bytes.{byBool}
 use Rattle.columns.specs.Rows.{rowAt}
-use Rattle.columns.proofs.Laid.{length-laid, getD-laid-before, getD-laid-in, getD-laid-behind}
+use Rattle.columns.proofs.Laid.{length-laid, getD-laid-in, getD-laid-behind}
 use Rattle.columns.proofs.Rows.{length-row, row-cell}
 use Rattle.queues.specs.Good.{Zeros}
 use Rattle.queues.specs.Transact.{copied, cleared}
+use Rattle.queues.proofs.Copied.{length-copied, drop-copied, copied-before, copied-in, copied-behind}
 
 -- ---- two columns that agree below n
 
@@ -30,27 +31,6 @@ same-row {n} {xs} {ys} s i l =
     let y = length-row ys i (omega (arith, s .long′)) in
     ext-getD 0 (rowAt xs i) (rowAt ys i) (x ∙ sym y)
     (λ j k. let w : j < 32 = omega arith in row-cell xs i j w ∙ s .cells (32 * i + j) (omega arith) ∙ sym (row-cell ys i j w))
-
--- ---- n cells copied
-
-module _ (from to n : ℕ) (xs : List ℕ) (source : from + n ≤ length xs) (target : to + n ≤ length xs) where
-  taken : length (take n (drop from xs)) ≡ n
-  taken = length-take-le n (drop from xs) (simp length-drop (omega arith))
-
-  pub length-copied : length (copied from to n xs) ≡ length xs
-  length-copied = length-laid to (take n (drop from xs)) xs (omega (arith, taken))
-
-  pub copied-before : (i : ℕ) → i < to → getD (copied from to n xs) i 0 ≡ getD xs i 0
-  copied-before i l = getD-laid-before to (take n (drop from xs)) xs (omega (arith, taken)) i 0 l
-
-  pub copied-in : (i : ℕ) → i < n → getD (copied from to n xs) (to + i) 0 ≡ getD xs (from + i) 0
-  copied-in i l =
-      getD-laid-in to (take n (drop from xs)) xs (omega (arith, taken)) i 0 (omega (arith, taken))
-      ∙ getD-take n (drop from xs) i 0 l
-      ∙ getD-drop from xs i 0
-
-  pub copied-behind : (i : ℕ) → to + n ≤ i → getD (copied from to n xs) i 0 ≡ getD xs i 0
-  copied-behind i l = getD-laid-behind to (take n (drop from xs)) xs (omega (arith, taken)) i 0 (omega (arith, taken))
 
 -- ---- a column of two halves, the second of which begins at t
 
@@ -107,13 +87,13 @@ module _ (t m n : ℕ) (xs : List ℕ) (held : m ≤ t) (few : n ≤ t) (fits : 
 
 -- ---- the numbers
 
-module _ (ns : List ℕ) (sixteen : length ns ≡ 16) where
+module _ (ns : List ℕ) (many : length ns ≡ 528) where
   -- after begin: the numbers to 7 and the last stay, the mark is 1, and 9 to 14 are 2 to 7
   module _ where
-    wide : length (copied 2 9 6 ns) ≡ 16
-    wide = length-copied 2 9 6 ns (omega arith) (omega arith) ∙ sixteen
+    wide : length (copied 2 9 6 ns) ≡ 528
+    wide = length-copied 2 9 6 ns (omega arith) (omega arith) ∙ many
 
-    pub begun-length : length (set (copied 2 9 6 ns) 8 1) ≡ 16
+    pub begun-length : length (set (copied 2 9 6 ns) 8 1) ≡ 528
     begun-length = length-set (copied 2 9 6 ns) 8 1 ∙ wide
 
     pub begun-low : (k : ℕ) → k < 8 → getD (set (copied 2 9 6 ns) 8 1) k 0 ≡ getD ns k 0
@@ -125,15 +105,18 @@ module _ (ns : List ℕ) (sixteen : length ns ≡ 16) where
     pub begun-high : (k : ℕ) → k < 6 → getD (set (copied 2 9 6 ns) 8 1) (9 + k) 0 ≡ getD ns (2 + k) 0
     begun-high k l = getD-set-other (copied 2 9 6 ns) 8 (9 + k) 1 0 (λ e. omega arith) ∙ copied-in 2 9 6 ns (omega arith) (omega arith) k l
 
+    pub begun-index : drop 16 (set (copied 2 9 6 ns) 8 1) ≡ drop 16 ns
+    begun-index = drop-set-lt 16 (copied 2 9 6 ns) 8 1 (omega arith) ∙ drop-copied 2 9 6 ns (omega arith) (omega arith) 16 (omega arith)
+
     pub begun-last : getD (set (copied 2 9 6 ns) 8 1) 15 0 ≡ getD ns 15 0
     begun-last = getD-set-other (copied 2 9 6 ns) 8 15 1 0 (λ e. omega arith) ∙ copied-behind 2 9 6 ns (omega arith) (omega arith) 15 (omega arith)
 
   -- after rollback: 0, 1 and the last stay, 2 to 7 are 9 to 14, and the mark is 0
   module _ where
-    wide′ : length (copied 9 2 6 ns) ≡ 16
-    wide′ = length-copied 9 2 6 ns (omega arith) (omega arith) ∙ sixteen
+    wide′ : length (copied 9 2 6 ns) ≡ 528
+    wide′ = length-copied 9 2 6 ns (omega arith) (omega arith) ∙ many
 
-    pub rolled-length : length (set (copied 9 2 6 ns) 8 0) ≡ 16
+    pub rolled-length : length (set (copied 9 2 6 ns) 8 0) ≡ 528
     rolled-length = length-set (copied 9 2 6 ns) 8 0 ∙ wide′
 
     pub rolled-low : (k : ℕ) → k < 2 → getD (set (copied 9 2 6 ns) 8 0) k 0 ≡ getD ns k 0

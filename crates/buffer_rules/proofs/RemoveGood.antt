@@ -5,7 +5,7 @@ use mathlib.Core.Bool.{Bool, false, not, _&&_}
 use mathlib.Core.List.{List, [], _∷_}
 use Prim.Native.Nat.{ℕ, _+_, _-_, _<_, _≤_}
 use native.Mathlib.Omega.{arith}
-use lib.ListN.{length, getD}
+use lib.ListN.{getD}
 use Rattle.numbers.proofs.Bytes.{byBool}
 use Rattle.columns.proofs.Gathers.{rank-le}
 use Rattle.rules.specs.World.{World, Row, keep, joined, some-of}
@@ -18,11 +18,12 @@ use Rattle.message.specs.Real.{Real}
 use Rattle.message.proofs.Real.{real-lawful}
 use Rattle.queues.specs.Cols.{Cols, live, number}
 use Rattle.queues.specs.Meant.{orderOf, bufferOf}
-use Rattle.queues.specs.Good.{Long, GoodHalf, Blank, Good}
+use Rattle.queues.specs.Good.{Long, GoodHalf, Blank, Formed, Good}
 use Rattle.queues.specs.Compact.{leftNumbers, seatsOf, removedC, removeC}
 use Rattle.queues.proofs.Counts.{all-counted, both-kinds, counts-add}
+use Rattle.queues.proofs.Indexing.{good-indexed}
 use Rattle.buffer_rules.proofs.CompactRule.{staying, long-after, placed-after, kinds-after, forms-after, blank-after}
-use Rattle.buffer_rules.proofs.RemoveRule.{namesOf, staysC, loses, messagesLeft, placesLeft, removedBy, number-2, number-3, number-4, numbers-long, packable, lost-is, number-left, order-left, buffer-left, kept-left}
+use Rattle.buffer_rules.proofs.RemoveRule.{namesOf, staysC, loses, messagesLeft, placesLeft, removedBy, number-2, number-3, number-4, packable, lost-is, many-left, number-left, order-left, buffer-left, kept-left}
 
 -- ---- externals
 
@@ -59,22 +60,18 @@ module _ (names : List ℕ) (c : Cols) (g : Good c) where
     accounts = l .accounts;
   }
 
-  sixteen-left : length (removedBy names c .numbers) ≡ 16
-  unfolding removedC
-  sixteen-left = numbers-long (messagesLeft names c) (placesLeft names c) (c .numbers) ∙ g .sixteen
-
   messages-left : number (removedBy names c) 2 ≡ messagesLeft names c
   unfolding removedC
-  messages-left = number-2 (messagesLeft names c) (placesLeft names c) (c .numbers) (g .sixteen)
+  messages-left = number-2 (messagesLeft names c) (placesLeft names c) (c .numbers) (g .many)
 
   places-left : number (removedBy names c) 3 ≡ placesLeft names c
   unfolding removedC
-  places-left = number-3 (messagesLeft names c) (placesLeft names c) (c .numbers) (g .sixteen)
+  places-left = number-3 (messagesLeft names c) (placesLeft names c) (c .numbers) (g .many)
 
   ints-left : number (removedBy names c) 4 ≡ number c 4 - (number c 2 - number (removedBy names c) 2)
   unfolding removedC
   ints-left =
-      number-4 (messagesLeft names c) (placesLeft names c) (c .numbers) (g .sixteen)
+      number-4 (messagesLeft names c) (placesLeft names c) (c .numbers) (g .many)
       ∙ ap (λ (r : ℕ). number c 4 - (number c 2 - r)) (sym messages-left)
 
   blank-left : Blank (removedBy names c)
@@ -129,13 +126,14 @@ module _ (names : List ℕ) (c : Cols) (g : Good c) where
           tidy = subst (TidyBuffer Real) (sym (buffer-left names c g)) (buffer-remove Real real-lawful (namesOf names) (bufferOf (live c)) (g .now .tidy));
         }
 
-    good-left : Good (removedBy names c)
+    -- but for the index, which is made anew
+    good-left : Formed (Unit {0}) (removedBy names c)
     good-left =
         let M = number-left names c g 0 refl in
         let A = number-left names c g 1 refl in
         record {
           lengths = long-left;
-          sixteen = sixteen-left;
+          many = many-left names c g;
           M·low = rw M (g .M·low);
           M·high = rw M (g .M·high);
           A·low = rw A (g .A·low);
@@ -144,6 +142,7 @@ module _ (names : List ℕ) (c : Cols) (g : Good c) where
           blank = blank-left;
           opened = rw (number-left names c g 8 refl) (g .opened);
           then = λ e. rw (M, A) (subst (GoodHalf (number c 0) (number c 1)) (sym (kept-left names c g)) (g .then (sym (number-left names c g 8 refl) ∙ e)));
+          index = tt;
         }
 
   -- ---- the call
@@ -152,4 +151,4 @@ module _ (names : List ℕ) (c : Cols) (g : Good c) where
   remove-good =
       byBool (some-of (loses (namesOf names)) (orderOf (live c)))
       (λ t. rw (lost-is names c g, t) g)
-      (λ f. rw (lost-is names c g, f) (good-left f))
+      (λ f. rw (lost-is names c g, f) (good-indexed (placesLeft names c) (removedBy names c) places-left (good-left f)))

@@ -24,7 +24,8 @@ use Rattle.message.specs.Real.{Real}
 use Rattle.queues.specs.Cols.{Cols, live, kept, number}
 use Rattle.queues.specs.Meant.{messageIn, rowIn, orderOf, bufferOf, ifMarked, meant}
 use Rattle.queues.specs.Good.{Good}
-use Rattle.queues.specs.Compact.{gone, compactC, namedC, seatsC, lostExternals, leftNumbers, goesC, seatsOf, removedC, removeC}
+use Rattle.queues.specs.Compact.{gone, compactC, namedC, seatsC, lostExternals, leftNumbers, goesC, seatsOf, stayC, removedC, removeC}
+use Rattle.queues.proofs.Indexing.{meant-indexed}
 use Rattle.buffer_rules.specs.Ruled.{answerOf}
 use Rattle.buffer_rules.proofs.Finds.{index-isIn, gather-keep, none-tab, tab-none, none-queue, queue-none, none-counted, counted-none}
 use Rattle.buffer_rules.proofs.CompactRule.{halfOf, Packable, seated, leftOf, order-after, kept-after}
@@ -54,7 +55,7 @@ module _ (r b : ℕ) (ns : List ℕ) where
       ∙ getD-set-other (set ns 2 r) 3 k b 0 (λ e. clash true refl (rw e at h))
       ∙ getD-set-other ns 2 k r 0 (λ e. clash true refl (rw e at h))
 
-  module _ (long : length ns ≡ 16) where
+  module _ (long : length ns ≡ 528) where
     pub number-2 : getD (leftNumbers r b ns) 2 0 ≡ r
     unfolding leftNumbers
     number-2 =
@@ -101,7 +102,7 @@ abbrev pub messagesLeft : List ℕ → Cols → ℕ
 messagesLeft names c = leftOf (number c 2) (seatsOf names c) c
 
 abbrev pub placesLeft : List ℕ → Cols → ℕ
-placesLeft names c = rank (staysC names c) (number c 3)
+placesLeft = stayC
 
 abbrev pub removedBy : List ℕ → Cols → Cols
 removedBy names c = removedC (seatsOf names c) (placesLeft names c) c
@@ -180,6 +181,13 @@ module _ (names : List ℕ) (c : Cols) (g : Good c) where
       order-after packable
       ∙ gather-keep (λ r. not (isIn Real (r .acc) (namesOf names))) (staysC names c) (rowIn (live c)) (number c 3) 0 (λ p a l. ap not (named-is names c p))
 
+  pub many-left : length (removedBy names c .numbers) ≡ 528
+  unfolding removedC
+  many-left = numbers-long (messagesLeft names c) (placesLeft names c) (c .numbers) ∙ g .many
+
+  enough : 16 ≤ length (removedBy names c .numbers)
+  enough = omega (arith, many-left)
+
   pub number-left : (k : ℕ) → (leb 2 k && leb k 4) ≡ false → number (removedBy names c) k ≡ number c k
   unfolding removedC
   number-left k h = number-stays (messagesLeft names c) (placesLeft names c) (c .numbers) k h
@@ -188,7 +196,7 @@ module _ (names : List ℕ) (c : Cols) (g : Good c) where
   unfolding orderOf removedC
   order-left =
       ap₂ (λ (m p : ℕ). orderOf (halfOf m p (compactC (number c 2) (number c 3) (seatsOf names c) c)))
-      (number-2 (messagesLeft names c) (placesLeft names c) (c .numbers) (g .sixteen)) (number-3 (messagesLeft names c) (placesLeft names c) (c .numbers) (g .sixteen))
+      (number-2 (messagesLeft names c) (placesLeft names c) (c .numbers) (g .many)) (number-3 (messagesLeft names c) (placesLeft names c) (c .numbers) (g .many))
       ∙ order-is
 
   pub buffer-left : bufferOf (live (removedBy names c)) ≡ remove Real (namesOf names) (bufferOf (live c))
@@ -238,4 +246,4 @@ module _ (names : List ℕ) (c : Cols) (g : Good c) where
   remove-is =
       byBool (some-of (loses (namesOf names)) (orderOf (live c)))
       (λ t. rw (lost-is, t))
-      (λ f. rw (lost-is, f) (λ i. record { code = 0; after = meant-left i }))
+      (λ f. rw (lost-is, f) (λ i. record { code = 0; after = (meant-indexed (placesLeft names c) (removedBy names c) enough ∙ meant-left) i }))

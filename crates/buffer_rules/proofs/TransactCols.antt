@@ -1,23 +1,27 @@
 -- The columns after begin, commit and rollback: well formed again, and what they mean. After a copy the two halves agree in their counts and
 -- rows, so that they mean the same (`buffer-same`) and are as well formed (`good-same`). Assumes nothing.
-use mathlib.Core.Path.{_≡_, refl, sym, subst, _∙_}
+use mathlib.Core.Path.{_≡_, refl, sym, ap, subst, _∙_}
 use mathlib.Core.Bool.{false}
 use mathlib.Core.Option.{Option, none, some}
 use Prim.Native.Nat.{ℕ, _*_, _≤_}
 use native.Mathlib.Omega.{arith}
 use lib.Dec.{eqb}
 use lib.ListN.{length, length-set}
-use lib.Seq.{getD-set-same, getD-set-other}
+use lib.Seq.{getD-set-same, getD-set-other, drop-set-lt}
 use borrow.Author.Tests.{eqb-false}
+use Rattle.columns.specs.Rows.{rowsOf}
+use Rattle.index.specs.Names.{indexOfNames}
 use Rattle.rules.specs.World.{Buffer}
 use Rattle.rules.specs.Calls.{Store}
 use Rattle.message.specs.Real.{Real}
 use Rattle.queues.specs.Cols.{Cols, Half, live, kept, number}
 use Rattle.queues.specs.Meant.{ifMarked, bufferOf, meant}
-use Rattle.queues.specs.Good.{Long, GoodHalf, Blank, Good}
+use Rattle.queues.specs.Good.{Long, GoodHalf, Blank, Formed, Good}
+use Rattle.queues.specs.Indexed.{Indexed}
 use Rattle.queues.specs.Transact.{copiedC, clearedC, begunC, committedC, rolledC}
 use Rattle.queues.proofs.Meaning.{SameRows, SameHalf, buffer-same, good-same}
-use Rattle.buffer_rules.proofs.HalfCells.{SameTo, same-row, down-length, down-live, down-kept, down-blank, up-length, up-live, up-blank, begun-length, begun-low, begun-mark, begun-high, begun-last, rolled-length, rolled-low, rolled-mark, rolled-high, rolled-last}
+use Rattle.queues.proofs.Indexing.{names-same}
+use Rattle.buffer_rules.proofs.HalfCells.{SameTo, same-row, down-length, down-live, down-kept, down-blank, up-length, up-live, up-blank, begun-length, begun-low, begun-mark, begun-high, begun-index, begun-last, rolled-length, rolled-low, rolled-mark, rolled-high, rolled-last}
 
 -- ---- general
 
@@ -81,12 +85,12 @@ module _ (c : Cols) (good : Good c) where
   begun-now : SameHalf (live (begunC c)) (live c)
   unfolding begunC copiedC
   begun-now = record {
-    messages = begun-low (c .numbers) (good .sixteen) 2 (omega arith);
-    places = begun-low (c .numbers) (good .sixteen) 3 (omega arith);
-    ints = begun-low (c .numbers) (good .sixteen) 4 (omega arith);
-    exts = begun-low (c .numbers) (good .sixteen) 5 (omega arith);
-    least = begun-low (c .numbers) (good .sixteen) 6 (omega arith);
-    marked = begun-low (c .numbers) (good .sixteen) 7 (omega arith);
+    messages = begun-low (c .numbers) (good .many) 2 (omega arith);
+    places = begun-low (c .numbers) (good .many) 3 (omega arith);
+    ints = begun-low (c .numbers) (good .many) 4 (omega arith);
+    exts = begun-low (c .numbers) (good .many) 5 (omega arith);
+    least = begun-low (c .numbers) (good .many) 6 (omega arith);
+    marked = begun-low (c .numbers) (good .many) 7 (omega arith);
     rows =
         same-rows (number c 2) (number c 3) (live (begunC c)) (live c)
         (down-live 1024 (number c 2) (c .owner) (few .rows) (omega (arith, long .owner, few .rows)))
@@ -101,12 +105,12 @@ module _ (c : Cols) (good : Good c) where
   begun-then : SameHalf (kept (begunC c)) (live c)
   unfolding begunC copiedC
   begun-then = record {
-    messages = begun-high (c .numbers) (good .sixteen) 0 (omega arith);
-    places = begun-high (c .numbers) (good .sixteen) 1 (omega arith);
-    ints = begun-high (c .numbers) (good .sixteen) 2 (omega arith);
-    exts = begun-high (c .numbers) (good .sixteen) 3 (omega arith);
-    least = begun-high (c .numbers) (good .sixteen) 4 (omega arith);
-    marked = begun-high (c .numbers) (good .sixteen) 5 (omega arith);
+    messages = begun-high (c .numbers) (good .many) 0 (omega arith);
+    places = begun-high (c .numbers) (good .many) 1 (omega arith);
+    ints = begun-high (c .numbers) (good .many) 2 (omega arith);
+    exts = begun-high (c .numbers) (good .many) 3 (omega arith);
+    least = begun-high (c .numbers) (good .many) 4 (omega arith);
+    marked = begun-high (c .numbers) (good .many) 5 (omega arith);
     rows =
         same-rows (number c 2) (number c 3) (kept (begunC c)) (live c)
         (down-kept 1024 (number c 2) (c .owner) (few .rows) (omega (arith, long .owner, few .rows)))
@@ -121,8 +125,8 @@ module _ (c : Cols) (good : Good c) where
   begun-blank : Blank (begunC c)
   unfolding begunC copiedC
   begun-blank =
-      let e = begun-low (c .numbers) (good .sixteen) 2 (omega arith) in
-      let f = begun-low (c .numbers) (good .sixteen) 3 (omega arith) in
+      let e = begun-low (c .numbers) (good .many) 2 (omega arith) in
+      let f = begun-low (c .numbers) (good .many) 3 (omega arith) in
       record {
         owner = rw e (down-blank 1024 (number c 2) (c .owner) (few .rows) (omega (arith, long .owner, few .rows)) (number c 2) (good .blank .owner));
         kind = rw e (down-blank 1024 (number c 2) (c .kind) (few .rows) (omega (arith, long .kind, few .rows)) (number c 2) (good .blank .kind));
@@ -131,29 +135,39 @@ module _ (c : Cols) (good : Good c) where
         address = rw e (down-blank 32768 (32 * number c 2) (c .address) (few .bytes) (omega (arith, long .address, few .bytes)) (32 * number c 2) (good .blank .address));
         hash = rw e (down-blank 32768 (32 * number c 2) (c .hash) (few .bytes) (omega (arith, long .hash, few .bytes)) (32 * number c 2) (good .blank .hash));
         accounts = rw f (down-blank 8192 (32 * number c 3) (c .accounts) (few .accounts) (omega (arith, long .accounts, few .accounts)) (32 * number c 3) (good .blank .accounts));
-        last = begun-last (c .numbers) (good .sixteen) ∙ good .blank .last;
+        last = begun-last (c .numbers) (good .many) ∙ good .blank .last;
       }
 
   begun-M : number (begunC c) 0 ≡ number c 0
   unfolding begunC
-  begun-M = begun-low (c .numbers) (good .sixteen) 0 (omega arith)
+  begun-M = begun-low (c .numbers) (good .many) 0 (omega arith)
 
   begun-A : number (begunC c) 1 ≡ number c 1
   unfolding begunC
-  begun-A = begun-low (c .numbers) (good .sixteen) 1 (omega arith)
+  begun-A = begun-low (c .numbers) (good .many) 1 (omega arith)
 
   begun-open : number (begunC c) 8 ≡ 1
   unfolding begunC
-  begun-open = begun-mark (c .numbers) (good .sixteen)
+  begun-open = begun-mark (c .numbers) (good .many)
 
-  begun-sixteen : length (begunC c .numbers) ≡ 16
+  begun-many : length (begunC c .numbers) ≡ 528
   unfolding begunC
-  begun-sixteen = begun-length (c .numbers) (good .sixteen)
+  begun-many = begun-length (c .numbers) (good .many)
+
+  -- the names in the order are the same, and so is their index
+  begun-names : rowsOf (number (begunC c) 3) (begunC c .accounts) ≡ rowsOf (number c 3) (c .accounts)
+  begun-names =
+      ap (λ (n : ℕ). rowsOf n (begunC c .accounts)) (begun-now .places)
+      ∙ names-same (number c 3) (begunC c .accounts) (c .accounts) (begun-now .rows .accounts)
+
+  begun-indexed : Indexed (begunC c)
+  unfolding begunC
+  begun-indexed = begun-index (c .numbers) (good .many) ∙ good .index ∙ ap indexOfNames (sym begun-names)
 
   pub begun-good : Good (begunC c)
   begun-good = record {
     lengths = begun-long;
-    sixteen = begun-sixteen;
+    many = begun-many;
     M·low = rw begun-M (good .M·low);
     M·high = rw begun-M (good .M·high);
     A·low = rw begun-A (good .A·low);
@@ -162,6 +176,7 @@ module _ (c : Cols) (good : Good c) where
     blank = begun-blank;
     opened = omega (arith, begun-open);
     then = λ e. good-room (kept (begunC c)) begun-M begun-A (good-same (kept (begunC c)) (live c) begun-then (good .now));
+    index = begun-indexed;
   }
 
   pub begun-meant : meant (begunC c) ≡ storeOf c (bufferOf (live c)) (some (bufferOf (live c)))
@@ -180,11 +195,11 @@ module _ (c : Cols) (good : Good c) where
 
   committed-shut : number (committedC c) 8 ≡ 0
   unfolding committedC
-  committed-shut = getD-set-same (c .numbers) 8 0 0 (omega (arith, good .sixteen))
+  committed-shut = getD-set-same (c .numbers) 8 0 0 (omega (arith, good .many))
 
-  committed-sixteen : length (committedC c .numbers) ≡ 16
+  committed-many : length (committedC c .numbers) ≡ 528
   unfolding committedC
-  committed-sixteen = length-set (c .numbers) 8 0 ∙ good .sixteen
+  committed-many = length-set (c .numbers) 8 0 ∙ good .many
 
   committed-now : live (committedC c) ≡ live c
   unfolding committedC
@@ -232,10 +247,17 @@ module _ (c : Cols) (good : Good c) where
         last = committed-number 15 refl ∙ good .blank .last;
       }
 
+  committed-indexed : Indexed (committedC c)
+  unfolding committedC
+  committed-indexed =
+      drop-set-lt 16 (c .numbers) 8 0 (omega arith)
+      ∙ good .index
+      ∙ ap (λ (n : ℕ). indexOfNames (rowsOf n (c .accounts))) (sym (committed-number 3 refl))
+
   pub committed-good : Good (committedC c)
   committed-good = record {
     lengths = committed-long;
-    sixteen = committed-sixteen;
+    many = committed-many;
     M·low = rw (committed-number 0 refl) (good .M·low);
     M·high = rw (committed-number 0 refl) (good .M·high);
     A·low = rw (committed-number 1 refl) (good .A·low);
@@ -246,6 +268,7 @@ module _ (c : Cols) (good : Good c) where
     blank = committed-blank;
     opened = omega (arith, committed-shut);
     then = λ e. absurd (zero-one (sym committed-shut ∙ e));
+    index = committed-indexed;
   }
 
   pub committed-meant : meant (committedC c) ≡ storeOf c (bufferOf (live c)) none
@@ -277,12 +300,12 @@ module _ (c : Cols) (good : Good c) where
     rolled-now : SameHalf (live (rolledC c)) (kept c)
     unfolding rolledC copiedC clearedC
     rolled-now = record {
-      messages = rolled-high (c .numbers) (good .sixteen) 0 (omega arith);
-      places = rolled-high (c .numbers) (good .sixteen) 1 (omega arith);
-      ints = rolled-high (c .numbers) (good .sixteen) 2 (omega arith);
-      exts = rolled-high (c .numbers) (good .sixteen) 3 (omega arith);
-      least = rolled-high (c .numbers) (good .sixteen) 4 (omega arith);
-      marked = rolled-high (c .numbers) (good .sixteen) 5 (omega arith);
+      messages = rolled-high (c .numbers) (good .many) 0 (omega arith);
+      places = rolled-high (c .numbers) (good .many) 1 (omega arith);
+      ints = rolled-high (c .numbers) (good .many) 2 (omega arith);
+      exts = rolled-high (c .numbers) (good .many) 3 (omega arith);
+      least = rolled-high (c .numbers) (good .many) 4 (omega arith);
+      marked = rolled-high (c .numbers) (good .many) 5 (omega arith);
       rows =
           same-rows (number c 9) (number c 10) (live (rolledC c)) (kept c)
           (up-live 1024 (number c 2) (number c 9) (c .owner) (few .rows) (few-then .rows) (omega (arith, long .owner)))
@@ -297,8 +320,8 @@ module _ (c : Cols) (good : Good c) where
     rolled-blank : Blank (rolledC c)
     unfolding rolledC copiedC clearedC
     rolled-blank =
-        let e = rolled-high (c .numbers) (good .sixteen) 0 (omega arith) in
-        let f = rolled-high (c .numbers) (good .sixteen) 1 (omega arith) in
+        let e = rolled-high (c .numbers) (good .many) 0 (omega arith) in
+        let f = rolled-high (c .numbers) (good .many) 1 (omega arith) in
         record {
           owner = rw e (up-blank 1024 (number c 2) (number c 9) (c .owner) (few .rows) (few-then .rows) (omega (arith, long .owner)) (good .blank .owner));
           kind = rw e (up-blank 1024 (number c 2) (number c 9) (c .kind) (few .rows) (few-then .rows) (omega (arith, long .kind)) (good .blank .kind));
@@ -307,29 +330,36 @@ module _ (c : Cols) (good : Good c) where
           address = rw e (up-blank 32768 (32 * number c 2) (32 * number c 9) (c .address) (few .bytes) (few-then .bytes) (omega (arith, long .address)) (good .blank .address));
           hash = rw e (up-blank 32768 (32 * number c 2) (32 * number c 9) (c .hash) (few .bytes) (few-then .bytes) (omega (arith, long .hash)) (good .blank .hash));
           accounts = rw f (up-blank 8192 (32 * number c 3) (32 * number c 10) (c .accounts) (few .accounts) (few-then .accounts) (omega (arith, long .accounts)) (good .blank .accounts));
-          last = rolled-last (c .numbers) (good .sixteen) ∙ good .blank .last;
+          last = rolled-last (c .numbers) (good .many) ∙ good .blank .last;
         }
 
     rolled-M : number (rolledC c) 0 ≡ number c 0
     unfolding rolledC
-    rolled-M = rolled-low (c .numbers) (good .sixteen) 0 (omega arith)
+    rolled-M = rolled-low (c .numbers) (good .many) 0 (omega arith)
 
     rolled-A : number (rolledC c) 1 ≡ number c 1
     unfolding rolledC
-    rolled-A = rolled-low (c .numbers) (good .sixteen) 1 (omega arith)
+    rolled-A = rolled-low (c .numbers) (good .many) 1 (omega arith)
 
     rolled-shut : number (rolledC c) 8 ≡ 0
     unfolding rolledC
-    rolled-shut = rolled-mark (c .numbers) (good .sixteen)
+    rolled-shut = rolled-mark (c .numbers) (good .many)
 
-    rolled-sixteen : length (rolledC c .numbers) ≡ 16
+    rolled-many : length (rolledC c .numbers) ≡ 528
     unfolding rolledC
-    rolled-sixteen = rolled-length (c .numbers) (good .sixteen)
+    rolled-many = rolled-length (c .numbers) (good .many)
 
-    pub rolled-good : Good (rolledC c)
+    pub enough : 16 ≤ length (rolledC c .numbers)
+    enough = omega (arith, rolled-many)
+
+    pub rolled-places : number (rolledC c) 3 ≡ number c 10
+    rolled-places = rolled-now .places
+
+    -- but for the index, which is made anew
+    pub rolled-good : Formed (Unit {0}) (rolledC c)
     rolled-good = record {
       lengths = rolled-long;
-      sixteen = rolled-sixteen;
+      many = rolled-many;
       M·low = rw rolled-M (good .M·low);
       M·high = rw rolled-M (good .M·high);
       A·low = rw rolled-A (good .A·low);
@@ -338,6 +368,7 @@ module _ (c : Cols) (good : Good c) where
       blank = rolled-blank;
       opened = omega (arith, rolled-shut);
       then = λ e. absurd (zero-one (sym rolled-shut ∙ e));
+      index = tt;
     }
 
     pub rolled-meant : meant (rolledC c) ≡ storeOf c (bufferOf (kept c)) none

@@ -12,11 +12,13 @@ use Rattle.message.specs.declared.Code.the-variants.{Done, NoTransaction, InTra
 use Rattle.message.specs.Real.{Real}
 use Rattle.queues.specs.Cols.{Cols, live, kept, number}
 use Rattle.queues.specs.Meant.{ifMarked, bufferOf, meant}
+use Rattle.queues.specs.Indexed.{indexedC}
 use Rattle.queues.specs.Good.{Good}
 use Rattle.queues.specs.Append.{left}
 use Rattle.queues.specs.Transact.{begunC, committedC, rolledC, beginC, commitC, rollbackC}
+use Rattle.queues.proofs.Indexing.{meant-indexed, good-indexed}
 use Rattle.buffer_rules.specs.Ruled.{answerOf}
-use Rattle.buffer_rules.proofs.TransactCols.{storeOf, begun-good, begun-meant, committed-good, committed-meant, rolled-good, rolled-meant}
+use Rattle.buffer_rules.proofs.TransactCols.{storeOf, begun-good, begun-meant, committed-good, committed-meant, enough, rolled-places, rolled-good, rolled-meant}
 
 -- ---- by whether a transaction is open
 
@@ -43,7 +45,7 @@ module _ (c : Cols) where
   unfolding commitC
   commit-refused z = rw (eq-eqb _ _ z)
 
-  rollback-taken : (number c 8 ≡ 0 → ⊥) → rollbackC c ≡ left Done (rolledC c)
+  rollback-taken : (number c 8 ≡ 0 → ⊥) → rollbackC c ≡ left Done (indexedC (number c 10) (rolledC c))
   unfolding rollbackC
   rollback-taken z = rw (ne-eqb _ _ z)
 
@@ -95,10 +97,15 @@ module _ (c : Cols) (good : Good c) where
       (λ t. let z = eqb-true (number c 8) 0 t in let e = meant-none c z in
       ap answerOf (rollback-refused c z) ∙ (λ i. record { code = 6; after = e i }) ∙ sym (ap (rollback Real) e))
       (λ f. let z = eqb-false (number c 8) 0 f in
-      ap answerOf (rollback-taken c z) ∙ (λ i. record { code = 0; after = rolled-meant c good (good .then (one z)) i }) ∙ sym (ap (rollback Real) (meant-one c (one z))))
+      let held = good .then (one z) in
+      let e = meant-indexed (number c 10) (rolledC c) (enough c good held) ∙ rolled-meant c good held in
+      ap answerOf (rollback-taken c z) ∙ (λ i. record { code = 0; after = e i }) ∙ sym (ap (rollback Real) (meant-one c (one z))))
 
   pub rollback-good : Good (rollbackC c .cols)
   rollback-good =
       byBool (eqb (number c 8) 0)
       (λ t. subst (λ l. Good (l .cols)) (sym (rollback-refused c (eqb-true (number c 8) 0 t))) good)
-      (λ f. let z = eqb-false (number c 8) 0 f in subst (λ l. Good (l .cols)) (sym (rollback-taken c z)) (rolled-good c good (good .then (one z))))
+      (λ f. let z = eqb-false (number c 8) 0 f in
+      let held = good .then (one z) in
+      subst (λ l. Good (l .cols)) (sym (rollback-taken c z))
+      (good-indexed (number c 10) (rolledC c) (rolled-places c good held) (rolled-good c good held)))

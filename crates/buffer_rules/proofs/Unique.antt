@@ -1,5 +1,5 @@
 -- Two buffers that mean the same, whose messages arrived in the same turns, are the same: `half-told` reads the counts and the rows off what
--- a half means, and `same-live` adds that the cells past them hold the fresh value. The exceptions stand in docs/CHOICES.md. Assumes nothing.
+-- a half means, and `same-live` adds that the cells past them hold the fresh value and that the index is that of the names. The exceptions stand in docs/CHOICES.md. Assumes nothing.
 use mathlib.Core.Path.{_≡_, refl, sym, ap, _∙_}
 use mathlib.Core.Bool.{true, false, cond}
 use mathlib.Core.List.{List, [], _∷_}
@@ -8,11 +8,12 @@ use Prim.Native.Nat.{ℕ, zero, suc, _+_, _*_, _/_, _%_, _<_, _≤_}
 use native.Mathlib.Nat.{not-suc-le-zero, le-of-suc-le-suc, zero-add, add-zero}
 use native.Mathlib.Omega.{arith}
 use lib.Dec.{eqb, ltb}
-use lib.ListN.{length, getD, length-drop}
+use lib.ListN.{length, getD, drop, length-drop}
 use borrow.Author.Tests.{eq-eqb, ltb-true, ltb-false}
 use Rattle.numbers.proofs.Bytes.{byBool}
 use Rattle.columns.specs.Lists.{tabI, pick}
-use Rattle.columns.specs.Rows.{rowAt}
+use Rattle.columns.specs.Rows.{rowAt, rowsOf}
+use Rattle.index.specs.Names.{indexOfNames}
 use Rattle.columns.proofs.Tabs.{length-tab, getD-tab}
 use Rattle.columns.proofs.Rows.{row-cell}
 use Rattle.rules.specs.World.{Row, Buffer}
@@ -26,6 +27,7 @@ use Rattle.queues.specs.Meant.{messageIn, rowIn, ifMarked, orderOf, bufferOf, m
 use Rattle.queues.specs.Good.{GoodHalf, Zeros, Good}
 use Rattle.queues.proofs.Counts.{all-counted}
 use Rattle.queues.proofs.Meaning.{pick-owners, SameRows, SameHalf}
+use Rattle.queues.proofs.Indexing.{names-same}
 
 -- ---- one step each
 
@@ -157,6 +159,7 @@ pub record SameLive (c d : Cols) : Type 0 where
   pub hash : (i : ℕ) → i < 32768 → getD (c .hash) i 0 ≡ getD (d .hash) i 0
   pub accounts : (i : ℕ) → i < 8192 → getD (c .accounts) i 0 ≡ getD (d .accounts) i 0
   pub numbers : SameHalf (live c) (live d)
+  pub index : drop 16 (c .numbers) ≡ drop 16 (d .numbers)
 
 module _ (c d : Cols) (g : Good c) (f : Good d) (M-same : number c 0 ≡ number d 0) (A-same : number c 1 ≡ number d 1) where
   pub same-live : meant c .now ≡ meant d .now → ((i : ℕ) → i < number d 2 → getD (c .owner) i 0 ≡ getD (d .owner) i 0) → SameLive c d
@@ -173,6 +176,11 @@ module _ (c d : Cols) (g : Good c) (f : Good d) (M-same : number c 0 ≡ number 
         hash = bytes-same (c .hash) (d .hash) n 32768 (s .rows .hash) (rw (s .messages) at (g .blank .hash)) (f .blank .hash);
         accounts = bytes-same (c .accounts) (d .accounts) (number d 3) 8192 (s .rows .accounts) (rw (s .places) at (g .blank .accounts)) (f .blank .accounts);
         numbers = s;
+        index =
+            g .index
+            ∙ ap (λ (n : ℕ). indexOfNames (rowsOf n (c .accounts))) (s .places)
+            ∙ ap indexOfNames (names-same (number d 3) (c .accounts) (d .accounts) (s .rows .accounts))
+            ∙ sym (f .index);
       }
 
   -- and what was held at begin: the counts and the rows; the cells past them are the spare room

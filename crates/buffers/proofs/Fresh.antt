@@ -8,6 +8,8 @@ use native.Mathlib.Nat.{not-suc-le-zero}
 use native.Mathlib.Omega.{arith}
 use lib.ListN.{length, getD, replicate, length-replicate, getD-replicate}
 use Rattle.columns.specs.Lists.{tabI}
+use Rattle.columns.specs.Rows.{rowsOf}
+use Rattle.index.specs.Names.{indexOfNames, entered, noNames}
 use Rattle.rules.specs.World.{joined, keep, firstOf}
 use Rattle.rules.specs.Queues.{allMsgs, internals, externals, heldInts, heldExts}
 use Rattle.rules.specs.Calls.{answer, within, noMessages, setUpBuffer}
@@ -18,6 +20,7 @@ use Rattle.message.specs.Real.{Real}
 use Rattle.message.proofs.Real.{real-lawful}
 use Rattle.queues.specs.Cols.{Cols, Half, live, kept, number}
 use Rattle.queues.specs.Meant.{orderOf, bufferOf, meant}
+use Rattle.queues.specs.Indexed.{Indexed}
 use Rattle.queues.specs.Good.{Long, GoodHalf, Zeros, Blank, Good}
 use Rattle.queues.specs.Append.{Left, left}
 use Rattle.buffer_rules.specs.Ruled.{answerOf}
@@ -72,11 +75,16 @@ module _ (m a : ℕ) where
     tidy = buffer-none Real real-lawful;
   }
 
+  -- the index of no name is all zeros
+  no-index : Indexed (freshC m a)
+  unfolding freshC indexOfNames entered noNames rowsOf
+  no-index = refl
+
   pub fresh-good : 1 ≤ m → m ≤ 1024 → 1 ≤ a → a ≤ 256 → Good (freshC m a)
   unfolding freshC
   fresh-good ml mh al ah = record {
     lengths = lengths;
-    sixteen = refl;
+    many = ap (λ (n : ℕ). suc (suc n)) (length-replicate {A = ℕ} 526 0);
     M·low = ml;
     M·high = mh;
     A·low = al;
@@ -85,6 +93,7 @@ module _ (m a : ℕ) where
     blank = blank;
     opened = omega arith;
     then = λ e. absurd (omega arith);
+    index = no-index;
   }
 
 -- ---- both answers

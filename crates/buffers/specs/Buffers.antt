@@ -39,7 +39,7 @@ pub record Gives (rule : calls.Answer (Store Real)) (model : Left) (code : Code)
 unfoldable pub freshC : (m a : ℕ) → Cols
 freshC m a =
     cols (replicate 2048 0) (replicate 2048 0) (replicate 2048 0) (replicate 2048 0) (replicate 65536 0) (replicate 65536 0) (replicate 16384 0)
-    (m ∷ a ∷ replicate 14 0)
+    (m ∷ a ∷ replicate 526 0)
 
 -- "M messages (1 to 1,024) and A accounts (1 to 256)"; "a refused set-up gives a fresh one of size 1"
 unfoldable pub setUpC : (m a : ℕ) → Left

@@ -16,7 +16,7 @@ pub struct Buffer {
     pub address: [u8; 65536],
     pub hash: [u8; 65536],
     pub accounts: [u8; 16384],
-    pub numbers: [u64; 16],
+    pub numbers: [u64; 528],
 }
 
 // What a call answers: its code, and the buffer afterwards.
@@ -45,7 +45,7 @@ pub struct Filled {
 fn fresh(m: u64, a: u64) -> Buffer
     ensures { λ r. ⌜ colsOf r ≡ freshC m a ⌝ }
 {
-    let mut numbers = [0u64; 16];
+    let mut numbers = [0u64; 528];
     numbers[0] = m;
     numbers[1] = a;
     Buffer {

@@ -81,11 +81,3 @@ pub fn repeat(b: Buffer, times: u64, o: BufferOrder, numbers: &[u64], n: usize) 
         reply: Reply::Code(message::number_of(code)),
     }
 }
-
-// Whether the buffer is full, by count and by slots.
-pub fn full(b: Buffer, limit: u64) -> Reply
-    requires { ⌜ GoodBuffer b ⌝ }
-{
-    let f = b.check_is_filled(limit);
-    Reply::Full(f.count, f.slots)
-}

@@ -2,6 +2,7 @@
 // Nothing is read or written here.
 pub mod buffer;
 pub mod fill;
+pub mod looks;
 pub mod names;
 pub mod shelf;
 pub mod tray;

@@ -2,6 +2,8 @@
 ghost use Rattle.lintelsong.specs.Closed.{GoodGroup};
 ghost use Rattle.desk.specs.Desks.{GoodShelf};
 use lintelsong::Group;
+use lintelsong::group_calls::Joined;
+use scenario::commands::ShelfOrder;
 use scenario::replies::Reply;
 
 pub struct Shelf {
@@ -12,16 +14,9 @@ pub struct Shelf {
     pub fourth: Group,
 }
 
-// A group, and the answer.
-pub struct New {
-    pub group: Group,
-    pub reply: Reply,
-}
-
-// Two groups, and the answer.
-pub struct Both {
-    pub left: Group,
-    pub right: Group,
+// A shelf, and the answer.
+pub struct Kept {
+    pub shelf: Shelf,
     pub reply: Reply,
 }
 
@@ -93,7 +88,7 @@ fn made_with(made: usize, place: usize) -> usize {
 
 // The shelf with a group that was set up at a place. Those below it that were not are taken for set up with room for one slot, which they
 // have.
-pub fn with_new(s: Shelf, place: usize, g: Group) -> Shelf
+fn with_new(s: Shelf, place: usize, g: Group) -> Shelf
     requires { ⌜ GoodShelf s × GoodGroup g ⌝ }
     ensures { λ r. ⌜ GoodShelf r ⌝ }
 {
@@ -102,30 +97,22 @@ pub fn with_new(s: Shelf, place: usize, g: Group) -> Shelf
     after
 }
 
-// The shelf with other groups at two places.
-pub fn with_both(s: Shelf, left: usize, l: Group, right: usize, r: Group) -> Shelf
-    requires { ⌜ GoodShelf s × GoodGroup l × GoodGroup r ⌝ }
-    ensures { λ d. ⌜ GoodShelf d ⌝ }
-{
-    let half = with_group(s, left, l);
-    with_group(half, right, r)
-}
-
-// A group set up anew, and the answer.
-pub fn set_up(slots: u64) -> New
-    ensures { λ r. ⌜ GoodGroup (r .group) ⌝ }
+// A group set up anew at a place.
+fn set_up(s: Shelf, place: usize, slots: u64) -> Kept
+    requires { ⌜ GoodShelf s ⌝ }
+    ensures { λ r. ⌜ GoodShelf (r .shelf) ⌝ }
 {
     let a = Group::set_up(slots);
-    let group = a.group;
     let code = a.code;
-    New {
-        group,
+    let group = a.group;
+    Kept {
+        shelf: with_new(s, place, group),
         reply: Reply::Code(message::number_of(code)),
     }
 }
 
 // Joins the right group to the left one so many times, once at least; the answer is the last one.
-pub fn join(l: Group, r: Group, times: u64) -> Both
+fn joined(l: Group, r: Group, times: u64) -> Joined
     requires { ⌜ GoodGroup l × GoodGroup r ⌝ }
     ensures { λ d. ⌜ GoodGroup (d .left) × GoodGroup (d .right) ⌝ }
 {
@@ -137,19 +124,32 @@ pub fn join(l: Group, r: Group, times: u64) -> Both
         j = left.join(right);
         count += 1;
     }
+    j
+}
+
+// The groups at two places joined.
+fn join(s: Shelf, left: usize, right: usize, times: u64) -> Kept
+    requires { ⌜ GoodShelf s ⌝ }
+    ensures { λ r. ⌜ GoodShelf (r .shelf) ⌝ }
+{
+    let j = joined(group_at(s, left), group_at(s, right), times);
     let code = j.code;
-    let left = j.left;
-    let right = j.right;
-    Both {
-        left,
-        right,
+    let l = j.left;
+    let r = j.right;
+    let half = with_group(s, left, l);
+    Kept {
+        shelf: with_group(half, right, r),
         reply: Reply::Code(message::number_of(code)),
     }
 }
 
-// Whether a group is filled.
-pub fn is_filled(g: Group, slots: u64, height: u64) -> Reply
-    requires { ⌜ GoodGroup g ⌝ }
+// Does an order so many times, once at least; the answer is the last one. A set-up done again leaves the same.
+pub fn repeat(s: Shelf, times: u64, o: ShelfOrder) -> Kept
+    requires { ⌜ GoodShelf s ⌝ }
+    ensures { λ r. ⌜ GoodShelf (r .shelf) ⌝ }
 {
-    Reply::IsFilled(g.check_is_filled(slots, height as usize))
+    match o {
+        ShelfOrder::SetUp(place, slots) => set_up(s, place, slots),
+        ShelfOrder::Join(left, right) => join(s, left, right, times),
+    }
 }

@@ -89,7 +89,7 @@ slots-never = refl
 module _ (c : Cols) (g : Good c) where
   pub rows-in : RowsIn (length (c .owner)) (length (c .accounts)) (c .numbers)
   rows-in = record {
-    sixteen = g .sixteen;
+    many = g .many;
     messages = omega (arith, g .now .messages, g .M·high, g .lengths .owner);
     places = omega (arith, g .now .places, g .A·high, g .lengths .accounts);
     few = omega (arith, g .now .places, g .A·high);
@@ -100,7 +100,7 @@ module _ (c : Cols) (g : Good c) where
 
   pub messages-in : MessagesIn (length (c .owner)) (length (c .kind)) (length (c .form)) (length (c .time)) (length (c .address)) (length (c .hash)) (c .numbers)
   messages-in = record {
-    sixteen = g .sixteen;
+    many = g .many;
     few = omega (arith, g .now .messages, g .M·high);
     owner = g .lengths .owner;
     kind = g .lengths .kind;

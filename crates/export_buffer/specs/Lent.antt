@@ -85,13 +85,13 @@ readAs ns = getD ns 0 0 ∷ getD ns 1 0 ∷ getD ns 2 0 ∷ getD ns 3 0 ∷ getD
 
 -- the rows that the numbers speak of are there
 pub record RowsIn (owners accounts : ℕ) (ns : List ℕ) : Type 0 where
-  pub sixteen : length ns ≡ 16
+  pub many : length ns ≡ 528
   pub messages : getD ns 2 0 ≤ owners
   pub places : 32 * getD ns 3 0 ≤ accounts
   pub few : getD ns 3 0 ≤ 256
 
 pub record MessagesIn (owners kinds forms times addresses hashes : ℕ) (ns : List ℕ) : Type 0 where
-  pub sixteen : length ns ≡ 16
+  pub many : length ns ≡ 528
   pub few : getD ns 2 0 ≤ 1024
   pub owner : owners ≡ 2048
   pub kind : kinds ≡ 2048

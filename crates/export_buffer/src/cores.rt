@@ -38,7 +38,7 @@ fn fresh(
     address: &mut [u8; 65536],
     hash: &mut [u8; 65536],
     accounts: &mut [u8; 16384],
-    numbers: &mut [u64; 16],
+    numbers: &mut [u64; 528],
     m: u64,
     a: u64,
 )
@@ -51,7 +51,7 @@ fn fresh(
     *address = [0u8; 65536];
     *hash = [0u8; 65536];
     *accounts = [0u8; 16384];
-    let mut sizes = [0u64; 16];
+    let mut sizes = [0u64; 528];
     sizes[0] = m;
     sizes[1] = a;
     *numbers = sizes;
@@ -65,7 +65,7 @@ pub fn set_up(
     address: &mut [u8; 65536],
     hash: &mut [u8; 65536],
     accounts: &mut [u8; 16384],
-    numbers: &mut [u64; 16],
+    numbers: &mut [u64; 528],
     m: u64,
     a: u64,
 ) -> u8
@@ -139,7 +139,7 @@ pub fn add(
     address: &mut [u8; 65536],
     hash: &mut [u8; 65536],
     accounts: &mut [u8; 16384],
-    numbers: &mut [u64; 16],
+    numbers: &mut [u64; 528],
     to: &[u8; 32],
     hashed: &[u8; 32],
     sent: u64,
@@ -163,7 +163,7 @@ pub fn remove(
     address: &mut [u8; 65536],
     hash: &mut [u8; 65536],
     accounts: &mut [u8; 16384],
-    numbers: &mut [u64; 16],
+    numbers: &mut [u64; 528],
     names: &[u8],
 ) -> u8
     requires { ⌜ Good (cols (now owner) (now kind) (now form) (now time) (now address) (now hash) (now accounts) (now numbers)) ⌝ }
@@ -191,7 +191,7 @@ pub fn begin(
     address: &mut [u8; 65536],
     hash: &mut [u8; 65536],
     accounts: &mut [u8; 16384],
-    numbers: &mut [u64; 16],
+    numbers: &mut [u64; 528],
 ) -> u8
     requires { ⌜ Good (cols (now owner) (now kind) (now form) (now time) (now address) (now hash) (now accounts) (now numbers)) ⌝ }
     ensures { λ r. ⌜ Gives (beginBy Real (meant (cols (now (owner .entry)) (now (kind .entry)) (now (form .entry)) (now (time .entry)) (now (address .entry)) (now (hash .entry)) (now (accounts .entry)) (now (numbers .entry))))) (beginC (cols (now (owner .entry)) (now (kind .entry)) (now (form .entry)) (now (time .entry)) (now (address .entry)) (now (hash .entry)) (now (accounts .entry)) (now (numbers .entry)))) r (cols (now (owner .exit)) (now (kind .exit)) (now (form .exit)) (now (time .exit)) (now (address .exit)) (now (hash .exit)) (now (accounts .exit)) (now (numbers .exit))) ⌝ }
@@ -200,8 +200,8 @@ pub fn begin(
     message::number_of(code)
 }
 
-pub fn commit(numbers: &mut [u64; 16]) -> u8
-    requires { ⌜ length (now numbers) ≡ 16 ⌝ }
+pub fn commit(numbers: &mut [u64; 528]) -> u8
+    requires { ⌜ length (now numbers) ≡ 528 ⌝ }
     ensures { λ r. ⌜ Commits r (now (numbers .entry)) (now (numbers .exit)) ⌝ }
 {
     let code = transactions::commit(numbers);
@@ -216,7 +216,7 @@ pub fn rollback(
     address: &mut [u8; 65536],
     hash: &mut [u8; 65536],
     accounts: &mut [u8; 16384],
-    numbers: &mut [u64; 16],
+    numbers: &mut [u64; 528],
 ) -> u8
     requires { ⌜ Good (cols (now owner) (now kind) (now form) (now time) (now address) (now hash) (now accounts) (now numbers)) ⌝ }
     ensures { λ r. ⌜ Gives (rollbackBy Real (meant (cols (now (owner .entry)) (now (kind .entry)) (now (form .entry)) (now (time .entry)) (now (address .entry)) (now (hash .entry)) (now (accounts .entry)) (now (numbers .entry))))) (rollbackC (cols (now (owner .entry)) (now (kind .entry)) (now (form .entry)) (now (time .entry)) (now (address .entry)) (now (hash .entry)) (now (accounts .entry)) (now (numbers .entry)))) r (cols (now (owner .exit)) (now (kind .exit)) (now (form .exit)) (now (time .exit)) (now (address .exit)) (now (hash .exit)) (now (accounts .exit)) (now (numbers .exit))) ⌝ }
@@ -227,8 +227,8 @@ pub fn rollback(
 
 // ---- what a buffer holds
 
-pub fn counts(numbers: &[u64; 16], out: &mut [u64; 6]) -> u8
-    requires { ⌜ length (now numbers) ≡ 16 ⌝ }
+pub fn counts(numbers: &[u64; 528], out: &mut [u64; 6]) -> u8
+    requires { ⌜ length (now numbers) ≡ 528 ⌝ }
     ensures { λ r. ⌜ (r ≡ 0) × (now (out .exit) ≡ readAs (now (numbers .entry))) ⌝ }
 {
     *out = [
@@ -242,15 +242,15 @@ pub fn counts(numbers: &[u64; 16], out: &mut [u64; 6]) -> u8
     0
 }
 
-pub fn has_min_ext_chain_time(numbers: &[u64; 16]) -> u8
-    requires { ⌜ length (now numbers) ≡ 16 ⌝ }
+pub fn has_min_ext_chain_time(numbers: &[u64; 528]) -> u8
+    requires { ⌜ length (now numbers) ≡ 528 ⌝ }
     ensures { λ r. ⌜ r ≡ bit (marked (now (numbers .entry)) 7) ⌝ }
 {
     export_parts::bit_of(numbers[7] != 0)
 }
 
-pub fn min_ext_chain_time(numbers: &[u64; 16]) -> u64
-    requires { ⌜ length (now numbers) ≡ 16 ⌝ }
+pub fn min_ext_chain_time(numbers: &[u64; 528]) -> u64
+    requires { ⌜ length (now numbers) ≡ 528 ⌝ }
     ensures { λ r. ⌜ r ≡ lowestIn (now (numbers .entry)) ⌝ }
 {
     if numbers[7] != 0 {
@@ -260,8 +260,8 @@ pub fn min_ext_chain_time(numbers: &[u64; 16]) -> u64
     }
 }
 
-pub fn in_tx(numbers: &[u64; 16]) -> u8
-    requires { ⌜ length (now numbers) ≡ 16 ⌝ }
+pub fn in_tx(numbers: &[u64; 528]) -> u8
+    requires { ⌜ length (now numbers) ≡ 528 ⌝ }
     ensures { λ r. ⌜ r ≡ bit (marked (now (numbers .entry)) 8) ⌝ }
 {
     export_parts::bit_of(numbers[8] != 0)
@@ -270,7 +270,7 @@ pub fn in_tx(numbers: &[u64; 16]) -> u8
 pub fn account_messages_count(
     owner: &[u16; 2048],
     accounts: &[u8; 16384],
-    numbers: &[u64; 16],
+    numbers: &[u64; 528],
     name: &[u8; 32],
 ) -> u64
     requires { ⌜ RowsIn (length (now owner)) (length (now accounts)) (now numbers) ⌝ }
@@ -283,15 +283,15 @@ pub fn account_messages_count(
     queues::queued(owner, held, accounts, places, &x) as u64
 }
 
-pub fn is_filled_by_count(numbers: &[u64; 16], limit: u64) -> u8
-    requires { ⌜ length (now numbers) ≡ 16 ⌝ }
+pub fn is_filled_by_count(numbers: &[u64; 528], limit: u64) -> u8
+    requires { ⌜ length (now numbers) ≡ 528 ⌝ }
     ensures { λ r. ⌜ r ≡ bit (leb limit (getD (now (numbers .entry)) 2 0)) ⌝ }
 {
     export_parts::bit_of(limit <= numbers[2])
 }
 
-pub fn is_filled_by_slots(numbers: &[u64; 16]) -> u8
-    requires { ⌜ length (now numbers) ≡ 16 ⌝ }
+pub fn is_filled_by_slots(numbers: &[u64; 528]) -> u8
+    requires { ⌜ length (now numbers) ≡ 528 ⌝ }
     ensures { λ r. ⌜ r ≡ 0 ⌝ }
 {
     0
@@ -299,8 +299,13 @@ pub fn is_filled_by_slots(numbers: &[u64; 16]) -> u8
 
 // ---- the walk in order
 
-pub fn account_at(accounts: &[u8; 16384], numbers: &[u64; 16], out: &mut [u8; 32], place: u16) -> u8
-    requires { ⌜ (length (now numbers) ≡ 16) × (32 * getD (now numbers) 3 0 ≤ length (now accounts)) ⌝ }
+pub fn account_at(
+    accounts: &[u8; 16384],
+    numbers: &[u64; 528],
+    out: &mut [u8; 32],
+    place: u16,
+) -> u8
+    requires { ⌜ (length (now numbers) ≡ 528) × (32 * getD (now numbers) 3 0 ≤ length (now accounts)) ⌝ }
     ensures { λ r. ⌜ Told r (now (out .exit)) (foundAccount (now (accounts .entry)) (now (numbers .entry)) place) ⌝ }
 {
     let p = numbers::wide16(place);
@@ -320,7 +325,7 @@ pub fn message_at(
     time: &[u64; 2048],
     address: &[u8; 65536],
     hash: &[u8; 65536],
-    numbers: &[u64; 16],
+    numbers: &[u64; 528],
     facts: &mut [u64; 4],
     to: &mut [u8; 32],
     hashed: &mut [u8; 32],

@@ -31,7 +31,7 @@ pub struct Buffer {
     address: [u8; 65536],
     hash: [u8; 65536],
     accounts: [u8; 16384],
-    numbers: [u64; 16],
+    numbers: [u64; 528],
 }
 
 // ---- set-up

@@ -1,10 +1,8 @@
-// The fill for C and Rust: it lends every column of the buffer, the group and the skipped set to the fill of crate `fills`, and copies nothing.
+// The fill for C and Rust: it lends every column of the buffer, the group and the skipped set to one function of `fill_cores`, and copies nothing.
 // The three have the layout of those of the other export crates, whose calls set them up.
 ghost use Rattle.fill_rules.specs.Fills.{callOf, keys, left};
-ghost use Rattle.export_fill.specs.Lent.{filterBy, FillsBy};
+ghost use Rattle.fill_cores.specs.Lent.{filterBy, FillsBy};
 ghost use Rattle.export_fill.specs.Held.{colsOf, tableOf, GoodBuffer, GoodGroup, GoodSet};
-
-mod cores;
 
 // A buffer for at most 1,024 messages of at most 256 accounts.
 #[repr(C)]
@@ -16,7 +14,7 @@ pub struct Buffer {
     address: [u8; 65536],
     hash: [u8; 65536],
     accounts: [u8; 16384],
-    numbers: [u64; 16],
+    numbers: [u64; 528],
 }
 
 // A group of at most 64 slots, 1,024 accounts and 1,024 messages.
@@ -68,7 +66,7 @@ pub extern "C" fn lintelsong_fill(
     requires { ⌜ GoodBuffer (now b) × GoodGroup (now g) × GoodSet (now s) ⌝ }
     ensures { λ r. ⌜ FillsBy (callOf (colsOf (now (b .entry))) (tableOf (now (g .entry))) (now (s .entry) .accounts) (now (s .entry) .held) slots height (filterBy filtered below) (now (names .entry)) (now (verdicts .entry)) (now (costs .entry)) cost) (keys (now (lts .entry)) (now (hashes .entry))) r (now (out .exit)) (left (colsOf (now (b .exit))) (tableOf (now (g .exit))) (now (s .exit) .accounts) (now (s .exit) .held) (keys (now (lts .exit)) (now (hashes .exit)))) ⌝ }
 {
-    cores::fill(
+    fill_cores::fill(
         &mut b.owner,
         &mut b.kind,
         &mut b.form,

@@ -64,7 +64,7 @@ module _ {v : Call} {rows : ℕ} (p : Called v rows) where
       record {
         rows-fit = omega (arith, p .rows-are, p .said .verdicts);
         held-fits = p .set .few;
-        numbers-long = p .buffer .sixteen;
+        numbers-long = p .buffer .many;
         number-long = l .number;
         ints-long = l .ints;
         exts-long = l .exts;
@@ -126,9 +126,9 @@ module _ {v : Call} {k : Keys} {rows : ℕ} {code : Code} (p : Taken v k rows co
     passBy rows opens =
         passW (accountsOf v) (heldOf v) (slotsOf v) (saidOf (v .said) rows) (v .filter) (v .height) opens (count (v .group) 1) (count (v .group) 6)
 
-    pub pass-needs : ((length (v .buffer .numbers) ≡ 16) × (length (v .group .numbers) ≡ 16)) × MayPassBy rows opens
+    pub pass-needs : ((length (v .buffer .numbers) ≡ 528) × (length (v .group .numbers) ≡ 16)) × MayPassBy rows opens
     pass-needs = (
-      (c .buffer .sixteen, c .group .lengths .numbers),
+      (c .buffer .many, c .group .lengths .numbers),
       subst (λ (x : ℕ). MayPassBy x opens) (sym (c .rows-are))
           (subst (λ (x : ℕ). MayPassBy (v .said .n) x) (sym opens-are) (may-pass v good (accepted .slots-fit) (accepted .last-fits))),
     )

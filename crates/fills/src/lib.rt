@@ -34,7 +34,7 @@ fn pass(
     kind: &[u8; 2048],
     time: &[u64; 2048],
     accounts: &[u8; 16384],
-    numbers: &[u64; 16],
+    numbers: &[u64; 528],
     number2: &[u16; 64],
     ints2: &[u8; 64],
     exts2: &[u8; 64],
@@ -53,7 +53,7 @@ fn pass(
     height: usize,
     opens: usize,
 ) -> Done
-    requires { ⌜ (length (now numbers) ≡ 16) × (length (now numbers2) ≡ 16) ⌝ }
+    requires { ⌜ (length (now numbers) ≡ 528) × (length (now numbers2) ≡ 16) ⌝ }
     requires { ⌜ MayPass (accountsOf (now accounts) (getD (now numbers) 3 0) (now accounts2) (now home2) (getD (now numbers2) 2 0)) (heldOf (now owner) (now kind) (now time) (getD (now numbers) 2 0)) (slotsOf (now ints2) (now exts2) (now number2) buckets2) (sayings (now set) held (now names) (now verdicts) (now costs) rows default) filter height opens (getD (now numbers2) 1 0) (getD (now numbers2) 6 0) ⌝ }
     ensures { λ r. ⌜ ranW r ≡ passW (accountsOf (now (accounts .entry)) (getD (now (numbers .entry)) 3 0) (now (accounts2 .entry)) (now (home2 .entry)) (getD (now (numbers2 .entry)) 2 0)) (heldOf (now (owner .entry)) (now (kind .entry)) (now (time .entry)) (getD (now (numbers .entry)) 2 0)) (slotsOf (now (ints2 .entry)) (now (exts2 .entry)) (now (number2 .entry)) buckets2) (sayings (now (set .entry)) held (now (names .entry)) (now (verdicts .entry)) (now (costs .entry)) rows default) filter height opens (getD (now (numbers2 .entry)) 1 0) (getD (now (numbers2 .entry)) 6 0) ⌝ }
 {
@@ -109,7 +109,7 @@ pub fn fill(
     address: &mut [u8; 65536],
     hash: &mut [u8; 65536],
     accounts: &mut [u8; 16384],
-    numbers: &mut [u64; 16],
+    numbers: &mut [u64; 528],
     number2: &mut [u16; 64],
     ints2: &mut [u8; 64],
     exts2: &mut [u8; 64],

@@ -6,15 +6,13 @@ ghost use Rattle.buckets.specs.Cells.{index};
 ghost use Rattle.buckets.specs.Moves.{Plain, slotsOf, Leaves, movedOn, MayPut, MayReindex, MayList};
 
 // A slot goes from bucket `old` to bucket `new`, and stays listed in the old one too unless another left it before.
-fn moved(buckets: [u32; 1088], old: usize, new: usize, number: SlotId, again: bool) -> [u32; 1088]
-    requires { ⌜ MayPut buckets new (number .0) × (old < 17) ⌝ }
-    ensures { λ r. ⌜ Leaves (movedOn old new (number .0) again (index buckets)) r ⌝ }
+fn moved(buckets: &mut [u32; 1088], old: usize, new: usize, number: SlotId, again: bool)
+    requires { ⌜ MayPut (now buckets) new (number .0) × (old < 17) ⌝ }
+    ensures { λ _. ⌜ Leaves (movedOn old new (number .0) again (index (now (buckets .entry)))) (now (buckets .exit)) ⌝ }
 {
-    let put = buckets::put_last(buckets, new, number);
+    buckets::put_last(buckets, new, number);
     if again {
-        buckets::take_out(put, old, number)
-    } else {
-        put
+        buckets::take_out(buckets, old, number);
     }
 }
 
@@ -37,8 +35,7 @@ pub fn reindex(
         let old = numbers::wide8(olds[i]);
         let new = numbers::wide8(news[i]);
         if old != new {
-            let next = moved(made, old, new, SlotId(numbers[i]), left[old] == 1);
-            made = next;
+            moved(&mut made, old, new, SlotId(numbers[i]), left[old] == 1);
             left[old] = 1;
         }
         i += 1;
@@ -54,8 +51,7 @@ pub fn list_new(buckets: [u32; 1088], numbers: &[u16], counts: &[u8], n: usize) 
     let mut made = buckets;
     let mut i: usize = 0;
     while i < n {
-        let next = buckets::put_last(made, numbers::wide8(counts[i]), SlotId(numbers[i]));
-        made = next;
+        buckets::put_last(&mut made, numbers::wide8(counts[i]), SlotId(numbers[i]));
         i += 1;
     }
     made

@@ -43,8 +43,16 @@ fn filled(page: &mut [u8], pen: Pen, code: u8, collected: usize, ops: u64, dropp
     out::text(page, p, b"\n")
 }
 
-// The answer.
-pub fn reply(page: &mut [u8], pen: Pen, r: Reply) -> Pen {
+// The first n bytes of a text, if it has as many.
+fn start_of(page: &mut [u8], pen: Pen, text: &[u8], n: usize) -> Pen {
+    if text.len() < n {
+        return pen;
+    }
+    out::text(page, pen, &text[..n])
+}
+
+// The answer. What it says of a text stands at the start of the one that is lent.
+pub fn reply(page: &mut [u8], pen: Pen, r: Reply, text: &[u8]) -> Pen {
     match r {
         Reply::Code(code) => {
             let shown = named(page, pen, b"code ", wide(code));
@@ -65,6 +73,10 @@ pub fn reply(page: &mut [u8], pen: Pen, r: Reply) -> Pen {
         Reply::Full(count, slots) => {
             let full = flagged(page, pen, b"full ", count);
             let shown = flagged(page, full, b" canfill ", slots);
+            out::text(page, shown, b"\n")
+        }
+        Reply::Text(n) => {
+            let shown = start_of(page, pen, text, n);
             out::text(page, shown, b"\n")
         }
     }

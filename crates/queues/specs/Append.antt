@@ -12,6 +12,7 @@ use Rattle.message.specs.Answers.{number as numberOf}
 use Rattle.message.specs.Records.{accountOf}
 use Rattle.records.specs.Records.{formByte}
 use Rattle.queues.specs.Cols.{Cols, number}
+use Rattle.queues.specs.Indexed.{indexedC}
 use Rattle.queues.specs.Look.{seatOf}
 
 -- a call's code, and the columns that it leaves
@@ -53,7 +54,7 @@ countedC kind time seat ns =
 unfoldable pub seatedC : (seat places : ℕ) → List ℕ → List ℕ → List ℕ
 seatedC seat places x accounts = cond (leb places seat) (laidAt (32 * seat) x accounts) accounts
 
--- the columns with the message in the next row
+-- the columns with the message in the next row; the index as it was
 unfoldable pub appendedC : Message → (seat : ℕ) → Cols → Cols
 appendedC m seat c = record {
   owner = set (c .owner) (number c 2) seat;
@@ -74,4 +75,6 @@ abbrev pub seatC : Message → Cols → ℕ
 seatC m c = seatOf (c .accounts) (number c 3) (accountOf m)
 
 unfoldable pub addC : Message → Cols → Left
-addC m c = onlyDone (addCodeC m (seatC m c) (c .numbers)) (appendedC m (seatC m c) c) c
+addC m c =
+    onlyDone (addCodeC m (seatC m c) (c .numbers))
+    (indexedC (more (leb (number c 3) (seatC m c)) (number c 3)) (appendedC m (seatC m c) c)) c

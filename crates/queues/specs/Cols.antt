@@ -4,7 +4,8 @@ use mathlib.Core.List.{List}
 use Prim.Native.Nat.{ℕ, zero, suc}
 use lib.ListN.{getD, drop}
 
--- one row a message: the place of its account in the order, and its record; one row of 32 bytes an account; sixteen numbers
+-- one row a message: the place of its account in the order, and its record; one row of 32 bytes an account; sixteen numbers,
+-- and behind them the index of the accounts in the order
 pub record Cols : Type 0 where
   pub owner : List ℕ
   pub kind : List ℕ
@@ -25,6 +26,19 @@ cols owner kind form time address hash accounts numbers = record {
   hash = hash;
   accounts = accounts;
   numbers = numbers;
+}
+
+-- the columns with other numbers
+abbrev pub withNumbers : List ℕ → Cols → Cols
+withNumbers ns c = record {
+  owner = c .owner;
+  kind = c .kind;
+  form = c .form;
+  time = c .time;
+  address = c .address;
+  hash = c .hash;
+  accounts = c .accounts;
+  numbers = ns;
 }
 
 -- number k of a buffer: 0 M, 1 A, 2 messages held, 3 accounts held, 4 internals, 5 externals, 6 the minimum, 7 whether there is one,

@@ -10,7 +10,8 @@ use Rattle.columns.specs.Laid.{isPlace, held, packed}
 use Rattle.columns.specs.Rows.{rowAt, rowsOf, packedRows, indexOf}
 use Rattle.message.specs.declared.Code.{Code}
 use Rattle.message.specs.declared.Code.the-variants.{Done, HoldsExternal}
-use Rattle.queues.specs.Cols.{Cols, number}
+use Rattle.queues.specs.Cols.{Cols, number, withNumbers}
+use Rattle.queues.specs.Indexed.{indexedC}
 use Rattle.queues.specs.Append.{Left, left}
 
 -- the mark of an account or a message that goes; no place is so high
@@ -58,18 +59,6 @@ lostExternals seats kind n owner = countI (λ i o. eqb (getD kind i 0) 1 && not 
 unfoldable pub leftNumbers : (r b : ℕ) → List ℕ → List ℕ
 leftNumbers r b ns = set (set (set ns 2 r) 3 b) 4 (getD ns 4 0 - (getD ns 2 0 - r))
 
-abbrev pub withNumbers : List ℕ → Cols → Cols
-withNumbers ns c = record {
-  owner = c .owner;
-  kind = c .kind;
-  form = c .form;
-  time = c .time;
-  address = c .address;
-  hash = c .hash;
-  accounts = c .accounts;
-  numbers = ns;
-}
-
 -- the places named, and the seats that they leave
 abbrev pub goesC : List ℕ → Cols → ℕ → Bool
 goesC names c = namedC names (length names / 32) (c .accounts)
@@ -77,14 +66,18 @@ goesC names c = namedC names (length names / 32) (c .accounts)
 unfoldable pub seatsOf : List ℕ → Cols → List ℕ
 seatsOf names c = seatsC (goesC names c) (number c 3) (replicate 256 gone)
 
--- the columns without the accounts that `seats` has go, `stay` of which stay
+-- the columns without the accounts that `seats` has go, `stay` of which stay; the index as it was
 unfoldable pub removedC : (seats : List ℕ) (stay : ℕ) → Cols → Cols
 removedC seats stay c =
     withNumbers (leftNumbers (rank (held (movedC (number c 2) seats (c .owner))) (number c 2)) stay (c .numbers)) (compactC (number c 2) (number c 3) seats c)
+
+-- how many accounts a removal leaves
+abbrev pub stayC : List ℕ → Cols → ℕ
+stayC names c = rank (λ p. not (goesC names c p)) (number c 3)
 
 -- "remove: a named account's queue holds an external"
 unfoldable pub removeC : List ℕ → Cols → Left
 removeC names c =
     cond (eqb (lostExternals (seatsOf names c) (c .kind) (number c 2) (c .owner)) 0)
-    (left Done (removedC (seatsOf names c) (rank (λ p. not (goesC names c p)) (number c 3)) c))
+    (left Done (indexedC (stayC names c) (removedC (seatsOf names c) (stayC names c) c)))
     (left HoldsExternal c)

@@ -7,6 +7,7 @@ use Rattle.rules.specs.Queues.{heldInts, heldExts}
 use Rattle.rules.specs.Kept.{TidyBuffer}
 use Rattle.message.specs.Real.{Real}
 use Rattle.queues.specs.Cols.{Cols, Half, live, kept, number}
+use Rattle.queues.specs.Indexed.{Indexed}
 use Rattle.queues.specs.Meant.{bufferOf}
 
 -- the columns of messages and accounts are as long as a buffer's
@@ -51,9 +52,10 @@ pub record Blank (c : Cols) : Type 0 where
   pub accounts : Zeros (c .accounts) (32 * number c 3) 8192
   pub last : number c 15 ≡ 0
 
-pub record Good (c : Cols) : Type 0 where
+-- columns that are well formed, and of whose index this is said
+pub record Formed (said : Type 0) (c : Cols) : Type 0 where
   pub lengths : Long c
-  pub sixteen : length (c .numbers) ≡ 16
+  pub many : length (c .numbers) ≡ 528
   -- "M messages (1 to 1,024) and A accounts (1 to 256)"
   pub M·low : 1 ≤ number c 0
   pub M·high : number c 0 ≤ 1024
@@ -63,3 +65,8 @@ pub record Good (c : Cols) : Type 0 where
   pub blank : Blank c
   pub opened : number c 8 ≤ 1
   pub then : number c 8 ≡ 1 → GoodHalf (number c 0) (number c 1) (kept c)
+  pub index : said
+
+-- well formed, with the index of the names in the order
+abbrev pub Good : Cols → Type 0
+Good c = Formed (Indexed c) c

@@ -8,9 +8,9 @@ use lib.ListN.{take, drop, set, replicate}
 use Rattle.columns.specs.Laid.{laidAt}
 use Rattle.message.specs.declared.Code.{Code}
 use Rattle.message.specs.declared.Code.the-variants.{Done, NoTransaction, InTransaction}
-use Rattle.queues.specs.Cols.{Cols, number}
+use Rattle.queues.specs.Cols.{Cols, number, withNumbers}
+use Rattle.queues.specs.Indexed.{indexedC}
 use Rattle.queues.specs.Append.{Left, left}
-use Rattle.queues.specs.Compact.{withNumbers}
 
 -- n cells copied, the first one first
 abbrev pub copied : (from to n : ℕ) → List ℕ → List ℕ
@@ -52,6 +52,7 @@ begunC c = withNumbers (set (copied 2 9 6 (c .numbers)) 8 1) (copiedC 0 1024 0 2
 unfoldable pub committedC : Cols → Cols
 committedC c = withNumbers (set (c .numbers) 8 0) c
 
+-- the index as it was
 unfoldable pub rolledC : Cols → Cols
 rolledC c =
     withNumbers (set (copied 9 2 6 (c .numbers)) 8 0)
@@ -65,4 +66,4 @@ unfoldable pub commitC : Cols → Left
 commitC c = cond (eqb (number c 8) 0) (left NoTransaction c) (left Done (committedC c))
 
 unfoldable pub rollbackC : Cols → Left
-rollbackC c = cond (eqb (number c 8) 0) (left NoTransaction c) (left Done (rolledC c))
+rollbackC c = cond (eqb (number c 8) 0) (left NoTransaction c) (left Done (indexedC (number c 10) (rolledC c)))

@@ -1,8 +1,8 @@
 -- What the two loops of the tests keep: the count of skip rows, and the look through the slots listed; and what a test that fails says.
 -- Assumes nothing.
-use mathlib.Core.Path.{_≡_, sym, ap, _∙_}
+use mathlib.Core.Path.{_≡_, refl, sym, ap, _∙_}
 use mathlib.Core.Bool.{Bool, true, false, cond, not}
-use mathlib.Core.List.{List, _∷_}
+use mathlib.Core.List.{List, [], _∷_}
 use Prim.Native.Nat.{ℕ, _+_, _-_, _<_, _≤_}
 use native.Mathlib.Nat.{zero-add, sub-zero, sub-eq-zero-of-le, add-zero}
 use native.Mathlib.Numerals.{add-one}
@@ -11,7 +11,8 @@ use lib.Dec.{eqb, ltb}
 use lib.ListN.{length, getD, take, drop, length-take, drop-of-length-le}
 use lib.Seq.{drop-cons, getD-take}
 use borrow.Author.Tests.{eq-eqb, ne-eqb, lt-ltb, le-ltb, ltb-false}
-use Rattle.rules.specs.World.{some-of}
+use Rattle.numbers.proofs.Bytes.{clash}
+use Rattle.rules.specs.World.{isNil, some-of}
 use Rattle.columns.specs.Lists.{countI}
 use Rattle.columns.proofs.Scans.{count-step}
 use Rattle.columns.proofs.Laid.{length-laid, middle-laid}
@@ -91,3 +92,9 @@ unfolding tooLarge
 not-large asked height most e =
     let p = or-false (ltb most asked) (ltb 16 height) e in
     (ltb-false most asked (p .0), ltb-false 16 height (p .1))
+
+-- no slot listed, none above the height
+pub none-above : (height : ℕ) (number ints exts : List ℕ) (slots : ℕ) (listed : List ℕ) → isNil listed ≡ true → false ≡ someAbove height number ints exts slots listed
+unfolding someAbove some-of isNil
+none-above height number ints exts slots [] e = refl
+none-above height number ints exts slots (x ∷ listed) e = clash false e refl

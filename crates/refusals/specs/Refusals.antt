@@ -55,7 +55,7 @@ pub record MayLook (number : List ℕ) (slots : ℕ) (listed : List ℕ) (count 
 pub record MayDecide (rows : ℕ) (verdicts : List ℕ) (held : ℕ) (numbers number ints exts buckets numbers2 : List ℕ) : Type 0 where
   pub rows-fit : rows ≤ length verdicts
   pub held-fits : held ≤ 512
-  pub numbers-long : length numbers ≡ 16
+  pub numbers-long : length numbers ≡ 528
   pub number-long : length number ≡ 64
   pub ints-long : length ints ≡ 64
   pub exts-long : length exts ≡ 64

@@ -125,6 +125,9 @@ fn overfull(
     requires { ⌜ (length (now number) ≡ 64) × (slots ≤ 64) × GoodBuckets buckets × (height ≤ 16) ⌝ }
     ensures { λ r. ⌜ r ≡ someAbove height (now (number .entry)) (now (ints .entry)) (now (exts .entry)) slots (joined (take height (index buckets))) ⌝ }
 {
+    if buckets::none_below(buckets, height) {
+        return false;
+    }
     let mut listed = [0u16; 1024];
     let count = entry::list_below(buckets, height, &mut listed);
     some_above(number, ints, exts, slots, &listed, count, height)
@@ -138,7 +141,7 @@ pub fn decide(
     rows: usize,
     verdicts: &[u8],
     held: usize,
-    numbers: &[u64; 16],
+    numbers: &[u64; 528],
     number: &[u16; 64],
     ints: &[u8; 64],
     exts: &[u8; 64],

@@ -9,11 +9,16 @@ use native.Mathlib.Omega.{arith}
 use lib.ListN.{length, replicate}
 use borrow.Author.Tests.{eq-eqb, ne-eqb}
 use Rattle.columns.proofs.Scans.{length-mapI}
+use Rattle.columns.proofs.Gathers.{rank-le}
+use Rattle.columns.proofs.PackedRows.{length-packed-rows}
+use Rattle.columns.specs.Laid.{held}
+use Rattle.index.specs.Names.{indexedBy}
 use Rattle.message.specs.declared.Code.the-variants.{Done, HoldsExternal}
-use Rattle.queues.specs.Cols.{Cols, number}
+use Rattle.queues.specs.Cols.{Cols, number, withNumbers}
+use Rattle.queues.specs.Indexed.{indexedC}
 use Rattle.queues.specs.Good.{Long, Good}
 use Rattle.queues.specs.Append.{left}
-use Rattle.queues.specs.Compact.{gone, packedC, compactC, seatsC, lostExternals, leftNumbers, withNumbers, goesC, seatsOf, removedC, removeC}
+use Rattle.queues.specs.Compact.{gone, packedC, compactC, seatsC, lostExternals, leftNumbers, goesC, seatsOf, removedC, removeC}
 use Rattle.removal.specs.Seats.{Seated, Owned, Compacted}
 use Rattle.removal.proofs.Seating.{seatFor}
 
@@ -56,6 +61,15 @@ pub length-seated : {goes : ℕ → Bool} {a : ℕ} {seats₀ seats : List ℕ} 
 unfolding seatsC
 length-seated {goes} {a} {seats₀} s = ap length (s .seats) ∙ length-mapI (seatFor goes) a 0 seats₀
 
+-- no more accounts stay than there were, and the packing keeps their column's length: the index of those that stay can be made
+pub indexable : {goes : ℕ → Bool} {n a : ℕ} {seats₀ seats : List ℕ} {stay : ℕ} {c₀ c₁ : Cols} {r : ℕ} → a ≤ 256 → length (c₀ .accounts) ≡ 16384
+    → Seated goes a seats₀ seats stay → Compacted n a seats c₀ c₁ r → (32 * stay ≤ length (c₁ .accounts)) × (stay ≤ 256)
+unfolding compactC packedC
+indexable {goes} {n} {a} {seats₀} {seats} {stay} {c₀} {c₁} few long seat done =
+    let low : stay ≤ 256 = omega (arith, seat .stay, rank-le (λ p. not (goes p)) a) in
+    let same = ap (λ (x : Cols). length (x .accounts)) (done .cols) ∙ length-packed-rows (held seats) a 512 (c₀ .accounts) (omega arith) (omega arith) in
+    (omega (arith, same), low)
+
 module _ (names : List ℕ) (c : Cols) (seats : List ℕ) (stay lost : ℕ) (seat : Seated (goesC names c) (number c 3) (replicate 256 gone) seats stay)
     (count : lost ≡ lostExternals seats (c .kind) (number c 2) (c .owner)) where
   of-names : seats ≡ seatsOf names c
@@ -70,13 +84,15 @@ module _ (names : List ℕ) (c : Cols) (seats : List ℕ) (stay lost : ℕ) (sea
   refused h = rw (← loses, ne-eqb lost 0 h)
 
   module _ (none : lost ≡ 0) (c₁ : Cols) (r : ℕ) (done : Compacted (number c 2) (number c 3) seats (withNumbers [] c) c₁ r)
-      (ns : List ℕ) (left-over : ns ≡ leftNumbers r stay (c .numbers)) where
-    packed : withNumbers ns c₁ ≡ removedC seats stay c
-    unfolding removedC compactC packedC
+      (ns : List ℕ) (left-over : ns ≡ indexedBy stay (c₁ .accounts) (leftNumbers r stay (c .numbers))) where
+    packed : withNumbers ns c₁ ≡ indexedC stay (removedC seats stay c)
+    unfolding indexedC removedC compactC packedC
     packed =
-        (λ i. withNumbers (left-over i) (done .cols i))
-        ∙ (λ i. withNumbers (leftNumbers (done .count i) stay (c .numbers)) (compactC (number c 2) (number c 3) seats c))
+        (λ i. withNumbers (left-over i) c₁)
+        ∙ (λ i. withNumbers (indexedBy stay (done .cols i .accounts) (leftNumbers r stay (c .numbers))) (done .cols i))
+        ∙ (λ i. indexedC stay (withNumbers (leftNumbers (done .count i) stay (c .numbers)) (compactC (number c 2) (number c 3) seats c)))
 
     pub removed : left Done (withNumbers ns c₁) ≡ removeC names c
     unfolding removeC
-    removed = rw (← loses, eq-eqb lost 0 none) (ap (left Done) (packed ∙ (λ i. removedC (of-names i) (seat .stay i) c)))
+    removed =
+        rw (← loses, eq-eqb lost 0 none) (ap (left Done) (packed ∙ (λ i. indexedC (seat .stay i) (removedC (of-names i) (seat .stay i) c))))

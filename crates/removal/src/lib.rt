@@ -4,6 +4,7 @@ ghost use mathlib.Core.List.{[]};
 ghost use Prim.Native.Nat.{_*_, _-_, _≤_};
 ghost use lib.ListN.{length};
 ghost use Rattle.columns.specs.Laid.{Packs, packed, held};
+ghost use Rattle.index.specs.Names.{indexedBy};
 ghost use Rattle.queues.specs.Cols.{cols};
 ghost use Rattle.queues.specs.Good.{Long, Good};
 ghost use Rattle.queues.specs.Append.{left};
@@ -125,16 +126,17 @@ fn less(a: u64, b: u64) -> u64
     if b <= a { a - b } else { 0 }
 }
 
-// The numbers with r messages and b accounts left; all that went were internals.
-fn count_out(r: usize, b: usize, numbers: &mut [u64; 16])
-    requires { ⌜ length (now numbers) ≡ 16 ⌝ }
-    ensures { λ _. ⌜ now (numbers .exit) ≡ leftNumbers r b (now (numbers .entry)) ⌝ }
+// The numbers with r messages and b accounts left, and the index of these; all that went were internals.
+fn count_out(r: usize, b: usize, accounts: &[u8; 16384], numbers: &mut [u64; 528])
+    requires { ⌜ (32 * b ≤ length (now accounts)) × (b ≤ 256) × (length (now numbers) ≡ 528) ⌝ }
+    ensures { λ _. ⌜ now (numbers .exit) ≡ indexedBy b (now (accounts .entry)) (leftNumbers r b (now (numbers .entry))) ⌝ }
 {
     let went = less(numbers[2], r as u64);
     let ints = less(numbers[4], went);
     numbers[2] = r as u64;
     numbers[3] = b as u64;
     numbers[4] = ints;
+    index::rebuild(accounts, b, numbers);
 }
 
 // Removes the queues of the named accounts, 32 bytes a name; refuses if one of them holds an external. Names without a queue, names given
@@ -148,7 +150,7 @@ pub fn remove(
     address: &mut [u8; 65536],
     hash: &mut [u8; 65536],
     accounts: &mut [u8; 16384],
-    numbers: &mut [u64; 16],
+    numbers: &mut [u64; 528],
 ) -> Code
     requires { ⌜ Good (cols (now owner) (now kind) (now form) (now time) (now address) (now hash) (now accounts) (now numbers)) ⌝ }
     ensures { λ r. ⌜ left r (cols (now (owner .exit)) (now (kind .exit)) (now (form .exit)) (now (time .exit)) (now (address .exit)) (now (hash .exit)) (now (accounts .exit)) (now (numbers .exit))) ≡ removeC (now (names .entry)) (cols (now (owner .entry)) (now (kind .entry)) (now (form .entry)) (now (time .entry)) (now (address .entry)) (now (hash .entry)) (now (accounts .entry)) (now (numbers .entry))) ⌝ }
@@ -173,6 +175,6 @@ pub fn remove(
         hash,
         accounts,
     );
-    count_out(r, stay, numbers);
+    count_out(r, stay, accounts, numbers);
     Code::Done
 }

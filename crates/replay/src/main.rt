@@ -34,37 +34,22 @@ fn lines(
                     reply = d.reply;
                 }
                 Command::Tray(o) => t = desk::tray::repeat(t, times, o, lts, hashes),
-                Command::Group(place, slots) => {
-                    let d = desk::shelf::set_up(slots);
-                    s = desk::shelf::with_new(s, place, d.group);
-                    reply = d.reply;
-                }
-                Command::Join(left, right) => {
-                    let l = desk::shelf::group_at(s, left);
-                    let r = desk::shelf::group_at(s, right);
-                    let d = desk::shelf::join(l, r, times);
-                    s = desk::shelf::with_both(s, left, d.left, right, d.right);
+                Command::Shelf(o) => {
+                    let d = desk::shelf::repeat(s, times, o);
+                    s = d.shelf;
                     reply = d.reply;
                 }
                 Command::Fill(ask) => {
-                    let g = desk::shelf::group_at(s, ask.group);
-                    let d = desk::fill::repeat(b, g, t, times, ask, lts, hashes);
+                    let d = desk::fill::repeat(b, s, t, times, ask, lts, hashes);
                     b = d.buffer;
-                    s = desk::shelf::with_group(s, ask.group, d.group);
-                    t = desk::fill::with_set(t, d.skipped);
+                    s = d.shelf;
+                    t = d.tray;
                     reply = d.reply;
                 }
-                Command::IsFilled(place, slots, height) => {
-                    let g = desk::shelf::group_at(s, place);
-                    reply = desk::shelf::is_filled(g, slots, height);
-                }
-                Command::Full(limit) => reply = desk::buffer::full(b, limit),
-                Command::Wrong => {}
+                // the line was echoed, so that its room is free for a text
+                Command::Look(o) => reply = desk::looks::answer(b, s, o, line),
             }
-            let mut pen = pages::show::reply(page, c.pen, reply);
-            if t.loud {
-                pen = overview::state::state(page, pen, b, s, t, lts, hashes);
-            }
+            let pen = overview::state::told(page, c.pen, reply, line, b, s, t, lts, hashes);
             c = intake::orders::with_pen(c, pen);
         }
     }

@@ -1,6 +1,5 @@
 // A line read as a command. Every word after a command's name is a number; the numbers are put on a list that is lent.
 use crate::verbs;
-use crate::verbs::Verb;
 use words::cut;
 use words::decimal;
 use words::decimal::Number;
@@ -52,15 +51,31 @@ pub enum TrayOrder {
     Loud,
 }
 
-// A command, by what it goes to. A group is named by its place. The last two only look.
+// An order to the groups: one is set up, or the second is joined to the first. A group is named by its place.
+pub enum ShelfOrder {
+    SetUp(usize, u64),
+    Join(usize, usize),
+}
+
+// What is only looked at: whether a group is filled, whether the buffer is full, and a group's Display line.
+pub enum Look {
+    IsFilled(usize, u64, u64),
+    Full(u64),
+    Display(usize),
+}
+
+// A command, by what it goes to.
 pub enum Command {
     Buffer(BufferOrder),
     Tray(TrayOrder),
-    Group(usize, u64),
-    Join(usize, usize),
+    Shelf(ShelfOrder),
     Fill(Ask),
-    IsFilled(usize, u64, u64),
-    Full(u64),
+    Look(Look),
+}
+
+// What a verb and its numbers say: a command, or none.
+enum Said {
+    Is(Command),
     Wrong,
 }
 
@@ -103,141 +118,154 @@ fn at(numbers: &[u64], i: usize) -> u64 {
     if i < numbers.len() { numbers[i] } else { 0 }
 }
 
-// The command, if it has as many numbers as it asks for.
-fn exactly(n: usize, want: usize, c: Command) -> Command {
-    if n == want { c } else { Command::Wrong }
-}
-
 // The add of a record: the kind is a byte, and the two flags are 0 or 1.
-fn add(numbers: &[u64]) -> Command {
+fn add(numbers: &[u64]) -> Said {
     let kind = at(numbers, 0);
     let special = at(numbers, 1);
     let other = at(numbers, 2);
     if 255 < kind {
-        return Command::Wrong;
+        return Said::Wrong;
     }
     if 1 < special {
-        return Command::Wrong;
+        return Said::Wrong;
     }
     if 1 < other {
-        return Command::Wrong;
+        return Said::Wrong;
     }
-    Command::Buffer(BufferOrder::Add(Record {
+    Said::Is(Command::Buffer(BufferOrder::Add(Record {
         kind: kind as u8,
         special: special == 1,
         other: other == 1,
         account: at(numbers, 3),
         time: at(numbers, 4),
         hash: at(numbers, 5),
-    }))
+    })))
+}
+
+// An order to the buffer.
+fn buffer_order(verb: usize, numbers: &[u64]) -> Said {
+    let order = match verb {
+        verbs::ADD => return add(numbers),
+        verbs::REMOVE => BufferOrder::Remove,
+        verbs::BEGIN => BufferOrder::Begin,
+        verbs::COMMIT => BufferOrder::Commit,
+        verbs::ROLLBACK => BufferOrder::Rollback,
+        _ => BufferOrder::SetUp(at(numbers, 0), at(numbers, 1)),
+    };
+    Said::Is(Command::Buffer(order))
 }
 
 // One more skip row: its verdict is 0 or 1.
-fn row(account: u64, verdict: u64, cost: u64) -> Command {
+fn row(numbers: &[u64]) -> Said {
+    let verdict = at(numbers, 1);
     if 1 < verdict {
-        return Command::Wrong;
+        return Said::Wrong;
     }
-    Command::Tray(TrayOrder::Row(SkipRow {
-        account,
+    Said::Is(Command::Tray(TrayOrder::Row(SkipRow {
+        account: at(numbers, 0),
         verdict: verdict as u8,
-        cost,
-    }))
+        cost: at(numbers, 2),
+    })))
 }
 
 // A key list of at most 2,048 rows.
-fn keys(rows: u64) -> Command {
-    if rows <= 2048 {
-        Command::Tray(TrayOrder::Keys(rows as usize))
-    } else {
-        Command::Wrong
+fn keys(rows: u64) -> Said {
+    if 2048 < rows {
+        return Said::Wrong;
     }
+    Said::Is(Command::Tray(TrayOrder::Keys(rows as usize)))
+}
+
+// An order to what is laid ready.
+fn tray_order(verb: usize, numbers: &[u64]) -> Said {
+    let order = match verb {
+        verbs::ROW => return row(numbers),
+        verbs::KEYS => return keys(at(numbers, 0)),
+        verbs::COST => TrayOrder::Cost(at(numbers, 0)),
+        verbs::SET => TrayOrder::Set,
+        verbs::QUIET => TrayOrder::Quiet,
+        verbs::LOUD => TrayOrder::Loud,
+        _ => TrayOrder::Rows,
+    };
+    Said::Is(Command::Tray(order))
 }
 
 // The set-up of one of the four groups.
-fn group(place: u64, slots: u64) -> Command {
+fn group(place: u64, slots: u64) -> Said {
     if 3 < place {
-        return Command::Wrong;
+        return Said::Wrong;
     }
-    Command::Group(place as usize, slots)
+    Said::Is(Command::Shelf(ShelfOrder::SetUp(place as usize, slots)))
 }
 
-// The fill of a group: the filter is 0 or 1.
-fn fill(numbers: &[u64]) -> Command {
+// The join of two groups that are there, not of one with itself.
+fn join(left: u64, right: u64, made: u64) -> Said {
+    if made <= left {
+        return Said::Wrong;
+    }
+    if made <= right {
+        return Said::Wrong;
+    }
+    if left == right {
+        return Said::Wrong;
+    }
+    Said::Is(Command::Shelf(ShelfOrder::Join(left as usize, right as usize)))
+}
+
+// The fill of a group that is there: the filter is 0 or 1.
+fn fill(numbers: &[u64], made: u64) -> Said {
     let place = at(numbers, 0);
     let filter = at(numbers, 3);
-    if 3 < place {
-        return Command::Wrong;
+    if made <= place {
+        return Said::Wrong;
     }
     if 1 < filter {
-        return Command::Wrong;
+        return Said::Wrong;
     }
-    Command::Fill(Ask {
+    Said::Is(Command::Fill(Ask {
         group: place as usize,
         slots: at(numbers, 1),
         height: at(numbers, 2),
         filter: filter == 1,
         threshold: at(numbers, 4),
-    })
+    }))
 }
 
-// The join of two groups, not of one with itself.
-fn join(left: u64, right: u64) -> Command {
-    if 3 < left {
-        return Command::Wrong;
+// A look at a group that is there.
+fn look_at_group(verb: usize, numbers: &[u64], made: u64) -> Said {
+    let place = at(numbers, 0);
+    if made <= place {
+        return Said::Wrong;
     }
-    if 3 < right {
-        return Command::Wrong;
+    if verb == verbs::DISPLAY {
+        return Said::Is(Command::Look(Look::Display(place as usize)));
     }
-    if left == right {
-        return Command::Wrong;
-    }
-    Command::Join(left as usize, right as usize)
+    Said::Is(Command::Look(Look::IsFilled(place as usize, at(numbers, 1), at(numbers, 2))))
 }
 
-// Whether one of the four groups is filled.
-fn is_filled(place: u64, slots: u64, height: u64) -> Command {
-    if 3 < place {
-        return Command::Wrong;
-    }
-    Command::IsFilled(place as usize, slots, height)
-}
-
-// The command of a verb and n numbers.
-fn command_of(verb: Verb, n: usize, numbers: &[u64]) -> Command {
-    let first = at(numbers, 0);
-    let second = at(numbers, 1);
-    let third = at(numbers, 2);
+// A command to groups, of which `made` are there, or a look.
+fn group_command(verb: usize, numbers: &[u64], made: u64) -> Said {
     match verb {
-        Verb::Buffer => exactly(n, 2, Command::Buffer(BufferOrder::SetUp(first, second))),
-        Verb::Group => exactly(n, 2, group(first, second)),
-        Verb::Add => exactly(n, 6, add(numbers)),
-        Verb::Remove => Command::Buffer(BufferOrder::Remove),
-        Verb::Begin => exactly(n, 0, Command::Buffer(BufferOrder::Begin)),
-        Verb::Commit => exactly(n, 0, Command::Buffer(BufferOrder::Commit)),
-        Verb::Rollback => exactly(n, 0, Command::Buffer(BufferOrder::Rollback)),
-        Verb::Rows => exactly(n, 0, Command::Tray(TrayOrder::Rows)),
-        Verb::Row => exactly(n, 3, row(first, second, third)),
-        Verb::Cost => exactly(n, 1, Command::Tray(TrayOrder::Cost(first))),
-        Verb::Set => exactly(n, 0, Command::Tray(TrayOrder::Set)),
-        Verb::Keys => exactly(n, 1, keys(first)),
-        Verb::Fill => exactly(n, 5, fill(numbers)),
-        Verb::Join => exactly(n, 2, join(first, second)),
-        Verb::IsFilled => exactly(n, 3, is_filled(first, second, third)),
-        Verb::Full => exactly(n, 1, Command::Full(first)),
-        Verb::Quiet => exactly(n, 0, Command::Tray(TrayOrder::Quiet)),
-        Verb::Loud => exactly(n, 0, Command::Tray(TrayOrder::Loud)),
-        Verb::Unknown => Command::Wrong,
+        verbs::GROUP => group(at(numbers, 0), at(numbers, 1)),
+        verbs::JOIN => join(at(numbers, 0), at(numbers, 1), made),
+        verbs::FILL => fill(numbers, made),
+        verbs::FULL => Said::Is(Command::Look(Look::Full(at(numbers, 0)))),
+        _ => look_at_group(verb, numbers, made),
     }
 }
 
-// Whether the groups that a command goes to are there; `made` are set up.
-fn knows(made: usize, c: Command) -> bool {
-    match c {
-        Command::Fill(ask) => ask.group < made,
-        Command::IsFilled(place, _, _) => place < made,
-        Command::Join(left, right) => left < made && right < made,
-        _ => true,
+// What a verb says with as many numbers as it takes.
+fn command_of(verb: usize, numbers: &[u64], made: usize) -> Said {
+    if verb < verbs::ROWS {
+        return buffer_order(verb, numbers);
     }
+    if verb < verbs::GROUP {
+        return tray_order(verb, numbers);
+    }
+    if verb < verbs::UNKNOWN {
+        return group_command(verb, numbers, made as u64);
+    }
+    Said::Wrong
 }
 
 // The command whose name stands first from `here` on, so many times. There are `made` groups.
@@ -245,18 +273,17 @@ fn order(times: u64, line: &[u8], here: usize, made: usize, numbers: &mut [u64])
     let w = cut::word(line, here);
     let from = w.from;
     let to = w.to;
-    let v = verbs::verb_of(&line[from..to]);
+    let verb = verbs::verb_of(&line[from..to]);
     let Counted::All(n) = numbers_from(line, to, numbers) else {
         return Line::Bad;
     };
-    let c = command_of(v, n, numbers);
-    if let Command::Wrong = c {
+    if !verbs::takes(verb, n) {
         return Line::Bad;
     }
-    if knows(made, c) {
-        return Line::Order(times, n, c);
-    }
-    Line::Bad
+    let Said::Is(c) = command_of(verb, numbers, made) else {
+        return Line::Bad;
+    };
+    Line::Order(times, n, c)
 }
 
 // A command that is repeated: how often, from 1 on, stands first from `here` on.

@@ -1,93 +1,91 @@
-// The first word of a line, read as the name of a command.
+// The first word of a line, read as the name of a command: a verb is the place of its name in one list.
 use words::cut;
 
-pub enum Verb {
-    Buffer,
-    Group,
-    Add,
-    Remove,
-    Begin,
-    Commit,
-    Rollback,
-    Rows,
-    Row,
-    Cost,
-    Set,
-    Keys,
-    Fill,
-    Join,
-    IsFilled,
-    Full,
-    Quiet,
-    Loud,
-    Unknown,
+// The verbs of the buffer.
+pub const BUFFER: usize = 0;
+
+pub const ADD: usize = 1;
+
+pub const REMOVE: usize = 2;
+
+pub const BEGIN: usize = 3;
+
+pub const COMMIT: usize = 4;
+
+pub const ROLLBACK: usize = 5;
+
+// Those of the tray.
+pub const ROWS: usize = 6;
+
+pub const ROW: usize = 7;
+
+pub const COST: usize = 8;
+
+pub const SET: usize = 9;
+
+pub const KEYS: usize = 10;
+
+pub const QUIET: usize = 11;
+
+pub const LOUD: usize = 12;
+
+// Those of the groups, and of what is only looked at.
+pub const GROUP: usize = 13;
+
+pub const JOIN: usize = 14;
+
+pub const FILL: usize = 15;
+
+pub const IS_FILLED: usize = 16;
+
+pub const FULL: usize = 17;
+
+pub const DISPLAY: usize = 18;
+
+// No verb.
+pub const UNKNOWN: usize = 19;
+
+// The place of a word among the names, which stand one space apart; UNKNOWN if it is none of them.
+fn place_in(names: &[u8], word: &[u8]) -> usize {
+    let mut here: usize = 0;
+    let mut place: usize = 0;
+    while place < UNKNOWN {
+        let w = cut::word(names, here);
+        let from = w.from;
+        let to = w.to;
+        if cut::same(&names[from..to], word) {
+            return place;
+        }
+        here = to;
+        place += 1;
+    }
+    UNKNOWN
 }
 
-// The verb that a word names: those of the buffer.
-pub fn verb_of(word: &[u8]) -> Verb {
-    if cut::same(word, b"add") {
-        return Verb::Add;
-    }
-    if cut::same(word, b"remove") {
-        return Verb::Remove;
-    }
-    if cut::same(word, b"begin") {
-        return Verb::Begin;
-    }
-    if cut::same(word, b"commit") {
-        return Verb::Commit;
-    }
-    if cut::same(word, b"rollback") {
-        return Verb::Rollback;
-    }
-    if cut::same(word, b"buffer") {
-        return Verb::Buffer;
-    }
-    if cut::same(word, b"full") {
-        return Verb::Full;
-    }
-    verb_of_groups(word)
+// The verb that a word names.
+pub fn verb_of(word: &[u8]) -> usize {
+    place_in(
+        b"buffer add remove begin commit rollback rows row cost set keys quiet loud group join fill isfilled full display",
+        word,
+    )
 }
 
-// The verb that a word names: those of the groups.
-fn verb_of_groups(word: &[u8]) -> Verb {
-    if cut::same(word, b"fill") {
-        return Verb::Fill;
+// How many numbers a verb takes. A removal takes as many as there are.
+fn wants(verb: usize) -> usize {
+    match verb {
+        ADD => 6,
+        FILL => 5,
+        ROW | IS_FILLED => 3,
+        BUFFER | GROUP | JOIN => 2,
+        COST | KEYS | FULL | DISPLAY => 1,
+        _ => 0,
     }
-    if cut::same(word, b"join") {
-        return Verb::Join;
-    }
-    if cut::same(word, b"isfilled") {
-        return Verb::IsFilled;
-    }
-    if cut::same(word, b"group") {
-        return Verb::Group;
-    }
-    verb_beside(word)
 }
 
-// The verb that a word names: those of what lies beside them.
-fn verb_beside(word: &[u8]) -> Verb {
-    if cut::same(word, b"rows") {
-        return Verb::Rows;
+// Whether a verb takes n numbers.
+pub fn takes(verb: usize, n: usize) -> bool {
+    if verb == REMOVE {
+        return true;
     }
-    if cut::same(word, b"row") {
-        return Verb::Row;
-    }
-    if cut::same(word, b"cost") {
-        return Verb::Cost;
-    }
-    if cut::same(word, b"set") {
-        return Verb::Set;
-    }
-    if cut::same(word, b"keys") {
-        return Verb::Keys;
-    }
-    if cut::same(word, b"quiet") {
-        return Verb::Quiet;
-    }
-    if cut::same(word, b"loud") {
-        return Verb::Loud;
-    }
-    Verb::Unknown
+    n == wants(verb)
 }

@@ -1,19 +1,23 @@
--- The buffer at the end of a fill: what the packing needs, and that what it leaves, with the numbers put right, is `filledC`. Assumes nothing.
+-- The buffer at the end of a fill: what the packing needs, and that what it leaves, with the numbers put right and the index made anew, is `filledC`. Assumes nothing.
 use mathlib.Core.Path.{_≡_, sym, ap, _∙_}
 use mathlib.Core.Bool.{not}
 use mathlib.Core.List.{List, []}
-use Prim.Native.Nat.{ℕ, _+_, _≤_}
+use Prim.Native.Nat.{ℕ, _+_, _-_, _≤_}
 use native.Mathlib.Omega.{arith}
-use lib.ListN.{length, getD, take, replicate}
+use lib.Dec.{eqb}
+use lib.ListN.{length, getD, set, take, replicate, length-set}
 use lib.Seq.{length-take-le}
+use Rattle.numbers.proofs.Bytes.{byBool}
 use Rattle.columns.specs.Lists.{countI, rank}
 use Rattle.columns.specs.Laid.{laidAt, held}
 use Rattle.columns.proofs.Laid.{length-laid}
 use Rattle.columns.proofs.Gathers.{rank-le}
 use Rattle.columns.proofs.Packed.{length-packed}
-use Rattle.queues.specs.Cols.{Cols, cols, number}
+use Rattle.index.specs.Names.{indexedBy}
+use Rattle.queues.specs.Cols.{Cols, cols, number, withNumbers}
+use Rattle.queues.specs.Indexed.{indexedC}
 use Rattle.queues.specs.Good.{Long, Good}
-use Rattle.queues.specs.Compact.{gone, movedC, packedC, compactC, withNumbers}
+use Rattle.queues.specs.Compact.{gone, movedC, packedC, compactC}
 use Rattle.removal.specs.Seats.{Seated, Compacted}
 use Rattle.removal.proofs.Removing.{few, seated}
 use Rattle.settle.specs.Ends.{emptied, leftCounts, withOwners, seatsLeft, settledC, filledBy, filledC}
@@ -53,20 +57,29 @@ module _ (left : List ℕ) (c : Cols) (g : Good c) (wide : length left ≡ 1024)
         ∙ length-packed 0 (held (movedC (number c 2) seats owner)) (number c 2) (c .kind) (omega (arith, few c g, g .lengths .kind))
         ∙ g .lengths .kind
 
+-- the numbers keep their number
+pub counts-long : (r b i : ℕ) (ns : List ℕ) → length (leftCounts r b i ns) ≡ length ns
+unfolding leftCounts
+counts-long r b i ns =
+    let kept = set (set (set (set ns 2 r) 3 b) 4 i) 5 (r - i) in
+    let all = length-set (set (set (set ns 2 r) 3 b) 4 i) 5 (r - i) ∙ length-set (set (set ns 2 r) 3 b) 4 i ∙ length-set (set ns 2 r) 3 b ∙ length-set ns 2 r in
+    byBool (eqb b 0) (λ e. rw e (length-set (set kept 6 0) 7 0 ∙ length-set kept 6 0 ∙ all)) (λ e. rw e all)
+
 module _ (left : List ℕ) (c : Cols) (owner : List ℕ) (copied : owner ≡ laidAt 0 (take (number c 2) left) (c .owner))
     (seats : List ℕ) (stay : ℕ) (seat : Seated (emptied (number c 2) left) (number c 3) (replicate 256 gone) seats stay)
     (c₁ : Cols) (r : ℕ) (done : Compacted (number c 2) (number c 3) seats (lent owner c) c₁ r)
-    (i : ℕ) (counted : i ≡ countI internal r 0 (c₁ .kind)) (ns : List ℕ) (numbered : ns ≡ leftCounts r stay i (c .numbers)) where
+    (i : ℕ) (counted : i ≡ countI internal r 0 (c₁ .kind)) (ns : List ℕ) (numbered : ns ≡ leftCounts r stay i (c .numbers))
+    (made : List ℕ) (indexed : made ≡ indexedBy stay (c₁ .accounts) ns) where
   -- the columns packed by any seats, with any counts
   packed : withNumbers ns c₁ ≡ settledC (number c 2) (number c 3) seats r stay (withOwners (number c 2) left c)
   unfolding settledC compactC packedC
   packed =
       let n = number c 2 in
       let a = number c 3 in
-      let made : List ℕ → Cols = λ o. compactC n a seats (lent o c) in
+      let after : List ℕ → Cols = λ o. compactC n a seats (lent o c) in
       (λ j. withNumbers ((numbered ∙ ap (λ (x : ℕ). leftCounts r stay x (c .numbers)) counted) j) c₁)
       ∙ (λ j. withNumbers (leftCounts r stay (countI internal r 0 (done .cols j .kind)) (c .numbers)) (done .cols j))
-      ∙ (λ j. withNumbers (leftCounts r stay (countI internal r 0 (made (copied j) .kind)) (c .numbers)) (made (copied j)))
+      ∙ (λ j. withNumbers (leftCounts r stay (countI internal r 0 (after (copied j) .kind)) (c .numbers)) (after (copied j)))
 
   is-count : r ≡ rank (held (movedC (number c 2) seats (laidAt 0 (take (number c 2) left) (c .owner)))) (number c 2)
   is-count = done .count ∙ ap (λ (o : List ℕ). rank (held (movedC (number c 2) seats o)) (number c 2)) copied
@@ -75,12 +88,19 @@ module _ (left : List ℕ) (c : Cols) (owner : List ℕ) (copied : owner ≡ lai
   unfolding seatsLeft
   of-seats = seat .seats
 
-  pub settled : withNumbers ns c₁ ≡ filledC left c
+  filled : withNumbers ns c₁ ≡ filledBy (number c 2) (number c 3) left c
   unfolding filledBy
-  settled =
+  filled =
       let n = number c 2 in
       let a = number c 3 in
       let at = withOwners n left c in
       packed
       ∙ ap (λ (x : ℕ). settledC n a seats x stay at) is-count
       ∙ (λ j. settledC n a (of-seats j) (rank (held (movedC n (of-seats j) (at .owner))) n) (seat .stay j) at)
+
+  pub settled : withNumbers made c₁ ≡ filledC left c
+  unfolding indexedC
+  settled =
+      (λ j. withNumbers (indexed j) c₁)
+      ∙ ap (indexedC stay) filled
+      ∙ ap (λ (b : ℕ). indexedC b (filledBy (number c 2) (number c 3) left c)) (seat .stay)

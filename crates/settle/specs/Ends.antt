@@ -8,8 +8,9 @@ use lib.ListN.{length, getD, set, take, replicate}
 use Rattle.rules.specs.World.{isNil}
 use Rattle.columns.specs.Lists.{pick, countI, rank}
 use Rattle.columns.specs.Laid.{isPlace, held, laidAt}
-use Rattle.queues.specs.Cols.{Cols, number}
-use Rattle.queues.specs.Compact.{gone, movedC, compactC, seatsC, withNumbers}
+use Rattle.queues.specs.Cols.{Cols, number, withNumbers}
+use Rattle.queues.specs.Indexed.{indexedC}
+use Rattle.queues.specs.Compact.{gone, movedC, compactC, seatsC}
 
 -- ---- the buffer
 
@@ -52,14 +53,19 @@ settledC n a seats r b c =
     let made = compactC n a seats c in
     withNumbers (leftCounts r b (countI (λ i k. not (eqb k 1)) r 0 (made .kind)) (c .numbers)) made
 
+-- the index as it was
 unfoldable pub filledBy : (n a : ℕ) → List ℕ → Cols → Cols
 filledBy n a left c =
     let seats = seatsLeft n a left in
     let at = withOwners n left c in
     settledC n a seats (rank (held (movedC n seats (at .owner))) n) (rank (λ p. not (emptied n left p)) a) at
 
+-- how many accounts have a row left
+abbrev pub holders : List ℕ → Cols → ℕ
+holders left c = rank (λ p. not (emptied (number c 2) left p)) (number c 3)
+
 abbrev pub filledC : List ℕ → Cols → Cols
-filledC left c = filledBy (number c 2) (number c 3) left c
+filledC left c = indexedC (holders left c) (filledBy (number c 2) (number c 3) left c)
 
 -- ---- the group
 

@@ -285,8 +285,8 @@ fn count_internals(kind: &[u8; 2048], n: usize) -> usize
 }
 
 // The numbers of a buffer that holds r messages, `ints` of them internals, of b accounts. Without an account the minimum is cleared.
-fn count_left(r: usize, b: usize, ints: usize, numbers: &mut [u64; 16])
-    requires { ⌜ (ints ≤ r) × (length (now numbers) ≡ 16) ⌝ }
+fn count_left(r: usize, b: usize, ints: usize, numbers: &mut [u64; 528])
+    requires { ⌜ (ints ≤ r) × (length (now numbers) ≡ 528) ⌝ }
     ensures { λ _. ⌜ now (numbers .exit) ≡ leftCounts r b ints (now (numbers .entry)) ⌝ }
 {
     numbers[2] = r as u64;
@@ -299,7 +299,7 @@ fn count_left(r: usize, b: usize, ints: usize, numbers: &mut [u64; 16])
     }
 }
 
-// Packs the buffer by the owners that a fill left: rows taken or dropped go, and accounts without a row.
+// Packs the buffer by the owners that a fill left: rows taken or dropped go, and accounts without a row. The index is made anew.
 pub fn settle_buffer(
     left: &[u16; 1024],
     owner: &mut [u16; 2048],
@@ -309,7 +309,7 @@ pub fn settle_buffer(
     address: &mut [u8; 65536],
     hash: &mut [u8; 65536],
     accounts: &mut [u8; 16384],
-    numbers: &mut [u64; 16],
+    numbers: &mut [u64; 528],
 )
     requires { ⌜ Good (cols (now owner) (now kind) (now form) (now time) (now address) (now hash) (now accounts) (now numbers)) ⌝ }
     requires { ⌜ length (now left) ≡ 1024 ⌝ }
@@ -334,6 +334,7 @@ pub fn settle_buffer(
     );
     let ints = count_internals(kind, r);
     count_left(r, stay, ints, numbers);
+    index::rebuild(accounts, stay, numbers);
 }
 
 // ---- the group

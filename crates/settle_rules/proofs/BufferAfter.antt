@@ -24,13 +24,15 @@ use Rattle.rules.specs.Passes.{State}
 use Rattle.rules.specs.Fill.{bufferAfter}
 use Rattle.rules.specs.Calls.{withNow}
 use Rattle.message.specs.Real.{Real}
-use Rattle.queues.specs.Cols.{Cols, Half, live, number}
+use Rattle.queues.specs.Cols.{Cols, Half, live, number, withNumbers}
 use Rattle.queues.specs.Cols.{kept as keptHalf}
 use Rattle.queues.specs.Meant.{messageIn, rowIn, orderOf, bufferOf, ifMarked, meant}
 use Rattle.queues.specs.Good.{Long, Good}
-use Rattle.queues.specs.Compact.{gone, movedC, compactC, seatsC, withNumbers}
+use Rattle.queues.proofs.Indexing.{live-indexed, meant-indexed}
+use Rattle.queues.specs.Compact.{gone, movedC, compactC, seatsC}
 use Rattle.settle.proofs.Copying.{gathered}
-use Rattle.settle.specs.Ends.{emptied, leftCounts, withOwners, seatsLeft, settledC, filledBy, filledC}
+use Rattle.settle.specs.Ends.{emptied, leftCounts, withOwners, seatsLeft, settledC, filledBy, holders, filledC}
+use Rattle.settle.proofs.Settling.{counts-long}
 use Rattle.moves.specs.declared.Fixed.{Fixed}
 use Rattle.meaning.specs.Meaning.{Numbers, Columns, Setting, row, orderRow, stateOf}
 use Rattle.renaming.specs.Renaming.{Renaming, onRow, onBuffer}
@@ -62,13 +64,7 @@ module _ (r b i : ℕ) (ns : List ℕ) where
   pub count-stays : (k : ℕ) → (k ≡ 2 → ⊥) → (k ≡ 3 → ⊥) → (k ≡ 4 → ⊥) → (k ≡ 5 → ⊥) → (k ≡ 6 → ⊥) → (k ≡ 7 → ⊥) → getD (leftCounts r b i ns) k 0 ≡ getD ns k 0
   count-stays k a c d e g h = count-at k g h ∙ kept-at k a c d e
 
-  pub counts-long : length (leftCounts r b i ns) ≡ length ns
-  unfolding leftCounts
-  counts-long =
-      let all = length-set (set (set (set ns 2 r) 3 b) 4 i) 5 (r - i) ∙ length-set (set (set ns 2 r) 3 b) 4 i ∙ length-set (set ns 2 r) 3 b ∙ length-set ns 2 r in
-      byBool (eqb b 0) (λ e. rw e (length-set (set kept 6 0) 7 0 ∙ length-set kept 6 0 ∙ all)) (λ e. rw e all)
-
-  module _ (long : length ns ≡ 16) where
+  module _ (long : length ns ≡ 528) where
     pub count-2 : getD (leftCounts r b i ns) 2 0 ≡ r
     count-2 =
         count-at 2 (λ e. omega arith) (λ e. omega arith)
@@ -210,16 +206,31 @@ module _ {ext : ℕ → Bool} {time : ℕ → ℕ} {f : Renaming (Numbers ext ti
   abbrev pub countsLeft : List ℕ
   countsLeft = leftCounts messagesLeft placesLeft (countI (λ i k. not (eqb k 1)) messagesLeft 0 (made .kind)) (c .numbers)
 
-  pub filled-is : filledC left c ≡ withNumbers countsLeft made
+  pub many-left : length countsLeft ≡ 528
+  many-left = counts-long messagesLeft placesLeft (countI (λ i k. not (eqb k 1)) messagesLeft 0 (made .kind)) (c .numbers) ∙ v .good .many
+
+  -- the index apart
+  pub filled-is : filledBy (number c 2) (number c 3) left c ≡ withNumbers countsLeft made
   unfolding filledBy settledC
   filled-is = refl
+
+  enough : 16 ≤ length (filledBy (number c 2) (number c 3) left c .numbers)
+  unfolding filledBy settledC
+  enough = omega (arith, many-left)
+
+  -- the index says nothing of what is held
+  pub live-filled : live (filledC left c) ≡ live (filledBy (number c 2) (number c 3) left c)
+  live-filled = live-indexed (holders left c) (filledBy (number c 2) (number c 3) left c) enough
+
+  meant-filled : meant (filledC left c) ≡ meant (filledBy (number c 2) (number c 3) left c)
+  meant-filled = meant-indexed (holders left c) (filledBy (number c 2) (number c 3) left c) enough
 
   order-left : orderOf (live (withNumbers countsLeft made))
       ≡ map (onRow f) (keep (λ r. not (isNil (r .msgs))) (tabI (number c 3) 0 (orderRow ext time (number c 2) left)))
   unfolding orderOf
   order-left =
       ap₂ (λ (m p : ℕ). orderOf (halfOf m p made))
-      (count-2 messagesLeft placesLeft _ (c .numbers) (v .good .sixteen)) (count-3 messagesLeft placesLeft _ (c .numbers) (v .good .sixteen))
+      (count-2 messagesLeft placesLeft _ (c .numbers) (v .good .many)) (count-3 messagesLeft placesLeft _ (c .numbers) (v .good .many))
       ∙ order-after packable
       ∙ order-is
 
@@ -235,7 +246,7 @@ module _ {ext : ℕ → Bool} {time : ℕ → ℕ} {f : Renaming (Numbers ext ti
       → ifMarked (getD countsLeft 7 0) (getD countsLeft 6 0)
       ≡ cond (isNil (keep (λ r. not (isNil (r .msgs))) (tabI (number c 3) 0 (orderRow ext time (number c 2) left)))) none (bf .least)
   least-is bf e =
-      least-left messagesLeft placesLeft _ (c .numbers) (v .good .sixteen)
+      least-left messagesLeft placesLeft _ (c .numbers) (v .good .many)
       ∙ ap₂ (λ (t : Bool) (l : Option ℕ). cond t none l) none-left (sym e)
 
   -- the order on numbers, by the buffer's counts and by those of the fill
@@ -273,21 +284,31 @@ module _ {ext : ℕ → Bool} {time : ℕ → ℕ} {f : Renaming (Numbers ext ti
         marked = marked i;
       })
 
-  pub store-after : meant (filledC left c) ≡ withNow Real (meant c) (bufferOf (live (filledC left c)))
+  store-packed : meant (filledBy (number c 2) (number c 3) left c)
+      ≡ withNow Real (meant c) (bufferOf (live (filledBy (number c 2) (number c 3) left c)))
   unfolding withNow filledBy settledC
-  store-after =
+  store-packed =
       let M = number-stays 0 (λ e. omega arith) (λ e. omega arith) (λ e. omega arith) (λ e. omega arith) (λ e. omega arith) (λ e. omega arith) in
       let A = number-stays 1 (λ e. omega arith) (λ e. omega arith) (λ e. omega arith) (λ e. omega arith) (λ e. omega arith) (λ e. omega arith) in
       let opened = number-stays 8 (λ e. omega arith) (λ e. omega arith) (λ e. omega arith) (λ e. omega arith) (λ e. omega arith) (λ e. omega arith) in
       λ i. record { M = M i; A = A i; now = bufferOf (live (withNumbers countsLeft made)); kept = ifMarked (opened i) (bufferOf (kept-stays i)) }
 
+  pub store-after : meant (filledC left c) ≡ withNow Real (meant c) (bufferOf (live (filledC left c)))
+  store-after = meant-filled ∙ store-packed ∙ ap (λ (h : Half). withNow Real (meant c) (bufferOf h)) (sym live-filled)
+
 -- what the settled columns mean is what the rules leave of the buffer, by the renaming
+buffer-packed : {ext : ℕ → Bool} {time : ℕ → ℕ} {f : Renaming (Numbers ext time) Real} {fx : Fixed} {c : Cols} (m : Columns)
+    → BufferFacts ext time f fx c (m .store .owner) → (b : Setting) (o : ℕ) (bf : Buffer (Numbers ext time))
+    → bf .least ≡ ifMarked (number c 7) (number c 6)
+    → bufferOf (live (filledBy (number c 2) (number c 3) (m .store .owner) c)) ≡ onBuffer f (bufferAfter (Numbers ext time) bf (stateOf ext time fx b o m))
+unfolding stateOf bufferAfter filledBy settledC
+buffer-packed {ext} {time} {f} {fx} {c} m v b o bf e =
+    let order = order-left v ∙ ap (map (onRow f)) (order-same v) in
+    let least = least-is v bf e ∙ ap (λ l. cond (isNil l) none (bf .least)) (order-same v) in
+    λ i. record { order = order i; least = least i }
+
 pub buffer-after : {ext : ℕ → Bool} {time : ℕ → ℕ} {f : Renaming (Numbers ext time) Real} {fx : Fixed} {c : Cols} (m : Columns)
     → BufferFacts ext time f fx c (m .store .owner) → (b : Setting) (o : ℕ) (bf : Buffer (Numbers ext time))
     → bf .least ≡ ifMarked (number c 7) (number c 6)
     → bufferOf (live (filledC (m .store .owner) c)) ≡ onBuffer f (bufferAfter (Numbers ext time) bf (stateOf ext time fx b o m))
-unfolding stateOf bufferAfter filledBy settledC
-buffer-after {ext} {time} {f} {fx} {c} m v b o bf e =
-    let order = order-left v ∙ ap (map (onRow f)) (order-same v) in
-    let least = least-is v bf e ∙ ap (λ l. cond (isNil l) none (bf .least)) (order-same v) in
-    λ i. record { order = order i; least = least i }
+buffer-after m v b o bf e = ap bufferOf (live-filled v) ∙ buffer-packed m v b o bf e

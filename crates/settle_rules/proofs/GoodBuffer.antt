@@ -19,20 +19,20 @@ use Rattle.rules.specs.Kept.{TidyBuffer}
 use Rattle.rules.proofs.Accounts.{num, num-nil, num-append}
 use Rattle.message.specs.Real.{Real}
 use Rattle.message.specs.declared.Message.{Message}
-use Rattle.queues.specs.Cols.{Cols, Half, live, number}
+use Rattle.queues.specs.Cols.{Cols, Half, live, number, withNumbers}
 use Rattle.queues.specs.Meant.{messageIn, rowIn, orderOf, bufferOf}
-use Rattle.queues.specs.Good.{Long, GoodHalf, Blank, Good}
-use Rattle.queues.specs.Compact.{withNumbers}
+use Rattle.queues.specs.Good.{Long, GoodHalf, Blank, Formed, Good}
+use Rattle.queues.proofs.Indexing.{good-indexed}
 use Rattle.queues.proofs.Counts.{all-counted, both-kinds}
-use Rattle.settle.specs.Ends.{filledBy, filledC, settledC}
+use Rattle.settle.specs.Ends.{filledBy, holders, filledC, settledC}
 use Rattle.moves.specs.declared.Fixed.{Fixed}
 use Rattle.meaning.specs.Meaning.{Numbers}
 use Rattle.renaming.specs.Renaming.{Renaming}
 use Rattle.buffer_rules.proofs.Finds.{none-counted}
 use Rattle.buffer_rules.proofs.CompactRule.{staying, long-after, placed-after, kinds-after, forms-after, blank-after}
 use Rattle.settle_rules.specs.Facts.{BufferFacts}
-use Rattle.settle_rules.proofs.BufferAfter.{counts-long, count-2, count-3, count-4, count-5, count-6, count-7, staysAt, seatsIn, before}
-use Rattle.settle_rules.proofs.BufferAfter.{few, taken-long, fits, packable, messagesLeft, placesLeft, made, countsLeft, number-stays, kept-stays}
+use Rattle.settle_rules.proofs.BufferAfter.{count-2, count-3, count-4, count-5, count-6, count-7, staysAt, seatsIn, before}
+use Rattle.settle_rules.proofs.BufferAfter.{few, taken-long, fits, packable, messagesLeft, placesLeft, made, countsLeft, many-left, live-filled, number-stays, kept-stays}
 
 -- ---- the messages that pass a test, by their owners
 
@@ -119,10 +119,10 @@ module _ {ext : ℕ → Bool} {time : ℕ → ℕ} {f : Renaming (Numbers ext ti
       (λ e. clash true refl (rw e at h)) (λ e. clash true refl (rw e at h)) (λ e. clash true refl (rw e at h))
 
   messages-left : number filled 2 ≡ messagesLeft v
-  messages-left = count-2 (messagesLeft v) (placesLeft v) intsLeft (c .numbers) (v .good .sixteen)
+  messages-left = count-2 (messagesLeft v) (placesLeft v) intsLeft (c .numbers) (v .good .many)
 
   places-left : number filled 3 ≡ placesLeft v
-  places-left = count-3 (messagesLeft v) (placesLeft v) intsLeft (c .numbers) (v .good .sixteen)
+  places-left = count-3 (messagesLeft v) (placesLeft v) intsLeft (c .numbers) (v .good .many)
 
   few-left : number filled 2 ≤ number c 2
   few-left = omega (arith, messages-left, rank-le (staying (number c 2) (seatsIn v) (before v)) (number c 2))
@@ -174,7 +174,7 @@ module _ {ext : ℕ → Bool} {time : ℕ → ℕ} {f : Renaming (Numbers ext ti
 
   ints-left : number filled 4 ≡ heldInts Real (bufferOf (live filled))
   ints-left =
-      count-4 (messagesLeft v) (placesLeft v) intsLeft (c .numbers) (v .good .sixteen)
+      count-4 (messagesLeft v) (placesLeft v) intsLeft (c .numbers) (v .good .many)
       ∙ ap (λ (n : ℕ). countI (λ i k. not (eqb k 1)) n 0 (made v .kind)) (sym messages-left)
       ∙ sym (kinds-counted (live filled) owned (omega (arith, few-left, few v, long-left .kind)) placed-left)
 
@@ -184,17 +184,17 @@ module _ {ext : ℕ → Bool} {time : ℕ → ℕ} {f : Renaming (Numbers ext ti
 
   exts-left : number filled 5 ≡ heldExts Real (bufferOf (live filled))
   exts-left =
-      let i = count-4 (messagesLeft v) (placesLeft v) intsLeft (c .numbers) (v .good .sixteen) in
-      let e = count-5 (messagesLeft v) (placesLeft v) intsLeft (c .numbers) (v .good .sixteen) in
+      let i = count-4 (messagesLeft v) (placesLeft v) intsLeft (c .numbers) (v .good .many) in
+      let e = count-5 (messagesLeft v) (placesLeft v) intsLeft (c .numbers) (v .good .many) in
       omega (arith, i, e, messages-left, ints-left, both-left)
 
   -- ---- the minimum
 
   mark-is : number filled 7 ≡ cond (eqb (placesLeft v) 0) 0 (number c 7)
-  mark-is = count-7 (messagesLeft v) (placesLeft v) intsLeft (c .numbers) (v .good .sixteen)
+  mark-is = count-7 (messagesLeft v) (placesLeft v) intsLeft (c .numbers) (v .good .many)
 
   least-is : number filled 6 ≡ cond (eqb (placesLeft v) 0) 0 (number c 6)
-  least-is = count-6 (messagesLeft v) (placesLeft v) intsLeft (c .numbers) (v .good .sixteen)
+  least-is = count-6 (messagesLeft v) (placesLeft v) intsLeft (c .numbers) (v .good .many)
 
   marked-left : number filled 7 ≤ 1
   marked-left = rw mark-is (byBool (eqb (placesLeft v) 0) (λ e. rw e (omega arith)) (λ e. rw e (v .good .now .marked)))
@@ -220,14 +220,15 @@ module _ {ext : ℕ → Bool} {time : ℕ → ℕ} {f : Renaming (Numbers ext ti
     tidy = tidy;
   }
 
-  good-left : TidyBuffer Real (bufferOf (live filled)) → Good filled
+  -- but for the index, which is made anew
+  good-left : TidyBuffer Real (bufferOf (live filled)) → Formed (Unit {0}) filled
   good-left tidy =
       let g = v .good in
       let M = stays 0 refl in
       let A = stays 1 refl in
       record {
         lengths = long-left;
-        sixteen = counts-long (messagesLeft v) (placesLeft v) intsLeft (c .numbers) ∙ g .sixteen;
+        many = many-left v;
         M·low = rw M (g .M·low);
         M·high = rw M (g .M·high);
         A·low = rw A (g .A·low);
@@ -236,10 +237,13 @@ module _ {ext : ℕ → Bool} {time : ℕ → ℕ} {f : Renaming (Numbers ext ti
         blank = blank-left;
         opened = rw (stays 8 refl) (g .opened);
         then = λ e. rw (M, A) (subst (GoodHalf (number c 0) (number c 1)) (sym (kept-stays v)) (g .then (sym (stays 8 refl) ∙ e)));
+        index = tt;
       }
 
 -- the settled columns are well formed, if the buffer that they mean is tidy
 pub good-buffer-after : {ext : ℕ → Bool} {time : ℕ → ℕ} {f : Renaming (Numbers ext time) Real} {fx : Fixed} {c : Cols} {left : List ℕ}
     → BufferFacts ext time f fx c left → TidyBuffer Real (bufferOf (live (filledC left c))) → Good (filledC left c)
 unfolding filledBy settledC
-good-buffer-after v tidy = good-left v tidy
+good-buffer-after {c = c} {left = left} v tidy =
+    good-indexed (holders left c) (filledBy (number c 2) (number c 3) left c) (places-left v)
+    (good-left v (subst (λ (h : Half). TidyBuffer Real (bufferOf h)) (live-filled v) tidy))

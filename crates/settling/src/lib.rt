@@ -199,7 +199,7 @@ pub fn settle(
     address: &mut [u8; 65536],
     hash: &mut [u8; 65536],
     accounts: &mut [u8; 16384],
-    numbers: &mut [u64; 16],
+    numbers: &mut [u64; 528],
     number2: &mut [u16; 64],
     ints2: &mut [u8; 64],
     exts2: &mut [u8; 64],

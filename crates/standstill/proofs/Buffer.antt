@@ -1,27 +1,29 @@
--- The buffer stays where a fill leaves every row to its owner: no account is emptied, every place keeps its seat, and the counts are those
--- that stand there (`filled-same`). Assumes nothing.
+-- The buffer stays where a fill leaves every row to its owner: no account is emptied, every place keeps its seat, the counts are those that
+-- stand there, and the index is that of the names (`filled-same`). Assumes nothing.
 use mathlib.Core.Path.{_≡_, sym, ap, _∙_}
 use mathlib.Core.Bool.{true, false, cond, not}
-use mathlib.Core.List.{List}
+use mathlib.Core.List.{List, _++_}
 use Prim.Native.Nat.{ℕ, _-_, _<_, _≤_}
 use native.Mathlib.Nat.{zero-add}
 use native.Mathlib.Omega.{arith}
 use lib.Dec.{eqb}
-use lib.ListN.{getD, take, replicate, length-replicate}
+use lib.ListN.{getD, take, replicate, length-replicate, take-append-drop}
 use lib.Seq.{set-getD}
 use borrow.Author.Tests.{ne-eqb, lt-ltb}
 use Rattle.rules.specs.World.{Row, isNil}
 use Rattle.columns.specs.Lists.{pick, countI, rank}
 use Rattle.columns.specs.Laid.{laidAt, held}
 use Rattle.columns.proofs.Scans.{getD-mapI}
+use Rattle.index.specs.Names.{withIndex}
 use Rattle.message.specs.Real.{Real}
-use Rattle.queues.specs.Cols.{Cols, live, number}
+use Rattle.queues.specs.Cols.{Cols, live, number, withNumbers}
+use Rattle.queues.specs.Indexed.{indexedC}
 use Rattle.queues.specs.Meant.{messageIn, rowIn, orderOf}
 use Rattle.queues.specs.Good.{Good}
-use Rattle.queues.specs.Compact.{gone, newPlace, movedC, packedC, compactC, seatsC, withNumbers}
+use Rattle.queues.specs.Compact.{gone, newPlace, movedC, packedC, compactC, seatsC}
 use Rattle.queues.proofs.Counts.{counts-add}
 use Rattle.entry_rules.proofs.Tabs.{each-at}
-use Rattle.settle.specs.Ends.{emptied, leftCounts, withOwners, seatsLeft, settledC, filledBy, filledC}
+use Rattle.settle.specs.Ends.{emptied, leftCounts, withOwners, seatsLeft, settledC, filledBy, holders, filledC}
 use Rattle.settle_rules.proofs.Maps.{map-pick, pick-take, nil-map}
 use Rattle.settle_rules.proofs.GoodBuffer.{kinds-counted}
 use Rattle.standstill.proofs.Columns.{laid-same, map-same, rank-all, packed-all, packed-rows-all}
@@ -149,9 +151,24 @@ module _ (c : Cols) (good : Good c) (some : number c 3 ≡ 0 → ⊥) (left : Li
       ap (λ (x : Cols). withNumbers (leftCounts n a (countI (λ i k. not (eqb k 1)) n 0 (x .kind)) (c .numbers)) x) compact-same
       ∙ (λ i. withNumbers (numbers-same i) c)
 
-  pub filled-same : filledC left c ≡ c
+  filled-by-same : filledBy n a left c ≡ c
   unfolding filledBy
-  filled-same =
+  filled-by-same =
       ap (λ (x : Cols). settledC n a seats (rank (held (movedC n seats (x .owner))) n) (rank (λ p. not (emptied n left p)) a) x) at-same
       ∙ (λ i. settledC n a seats (rows-left i) (places-left i) c)
       ∙ settled-same
+
+  -- ---- the index, which is that of the names
+
+  indexed-same : indexedC a c ≡ c
+  unfolding indexedC withIndex
+  indexed-same =
+      let ns = c .numbers in
+      let e = ap (λ (cells : List ℕ). take 16 ns ++ cells) (sym (good .index)) ∙ take-append-drop 16 ns in
+      λ i. withNumbers (e i) c
+
+  pub filled-same : filledC left c ≡ c
+  filled-same =
+      ap (indexedC (holders left c)) filled-by-same
+      ∙ ap (λ (b : ℕ). indexedC b c) places-left
+      ∙ indexed-same

@@ -5,7 +5,7 @@ use mathlib.Core.Logic.{⊎-elim, inl, inr}
 use mathlib.Core.List.{List, []}
 use Prim.Native.Nat.{ℕ, _*_, _≤_}
 use native.Mathlib.Omega.{arith}
-use lib.ListN.{length, set, replicate, length-replicate}
+use lib.ListN.{length, set, replicate, length-set, length-replicate}
 use lib.Dec.{eqb}
 use mir.Syntax.{w64}
 use mir.Val.{Fits}
@@ -13,13 +13,15 @@ use borrow.Author.Tests.{eq-eqb, ne-eqb}
 use Rattle.numbers.proofs.Bytes.{byBool}
 use Rattle.columns.specs.Laid.{Copies}
 use Rattle.columns.proofs.Laid.{length-laid}
+use Rattle.index.specs.Names.{indexedBy}
 use Rattle.message.specs.declared.Code.{Code}
 use Rattle.message.specs.declared.Code.the-variants.{Done, NoTransaction, InTransaction}
-use Rattle.queues.specs.Cols.{Cols, number}
+use Rattle.queues.specs.Cols.{Cols, number, withNumbers}
+use Rattle.queues.specs.Indexed.{indexedC}
 use Rattle.queues.specs.Good.{Long, Good}
 use Rattle.queues.specs.Append.{left}
-use Rattle.queues.specs.Compact.{withNumbers}
 use Rattle.queues.specs.Transact.{copied, cleared, copiedC, clearedC, begunC, committedC, rolledC, beginC, commitC, rollbackC}
+use Rattle.queues.proofs.Copied.{length-copied}
 use Rattle.transactions.specs.Halves.{Halves, Commits}
 
 -- ---- what the copies between the halves need
@@ -114,6 +116,20 @@ module _ (c : Cols) (good : Good c) where
   pub up : {n a : ℕ} → (number c 8 ≡ 0 → ⊥) → n ≤ number c 9 → a ≤ number c 10 → Halves 1024 0 256 0 n a
   up z l m = record { messages = omega (arith, kept-few z); accounts = omega (arith, kept-few z); rows = inr (refl, refl); places = inr (refl, refl) }
 
+  -- what was copied back can be indexed
+  pub rebuildable : (x y : Cols) (ns : List ℕ) → (number c 8 ≡ 0 → ⊥) → x ≡ clearedC (number c 2) (number c 3) (withNumbers [] c)
+      → y ≡ copiedC 1024 0 256 0 (number c 9) (number c 10) x → ns ≡ copied 9 2 6 (c .numbers)
+      → (32 * number c 10 ≤ length (y .accounts)) × (number c 10 ≤ 256) × (length (set ns 8 0) ≡ 528)
+  unfolding copiedC
+  rebuildable x y ns z e f g =
+      let few = kept-few z .1 in
+      let long = long-again x e .accounts in
+      let same = ap (λ (w : Cols). length (w .accounts)) f ∙ length-copied (32 * 256) (32 * 0) (32 * number c 10) (x .accounts) (omega arith) (omega arith) in (
+        omega arith,
+        few,
+        length-set ns 8 0 ∙ ap length g ∙ length-copied 9 2 6 (c .numbers) (omega (arith, good .many)) (omega (arith, good .many)) ∙ good .many,
+      )
+
 -- ---- the calls' answers
 
 pub begin-open : (c : Cols) → (number c 8 ≡ 0 → ⊥) → left InTransaction c ≡ beginC c
@@ -130,10 +146,14 @@ unfolding rollbackC
 rollback-none c z = rw (eq-eqb _ _ z)
 
 pub rollback-done : (c x y : Cols) (ns : List ℕ) → (number c 8 ≡ 0 → ⊥) → x ≡ clearedC (number c 2) (number c 3) (withNumbers [] c)
-    → y ≡ copiedC 1024 0 256 0 (number c 9) (number c 10) x → ns ≡ copied 9 2 6 (c .numbers) → left Done (withNumbers (set ns 8 0) y) ≡ rollbackC c
-unfolding rollbackC rolledC copiedC clearedC
-rollback-done c x y ns z e f g =
-    rw (ne-eqb _ _ z) (λ i. left Done (withNumbers (set (g i) 8 0) ((f ∙ ap (copiedC 1024 0 256 0 (number c 9) (number c 10)) e) i)))
+    → y ≡ copiedC 1024 0 256 0 (number c 9) (number c 10) x → ns ≡ copied 9 2 6 (c .numbers)
+    → (made : List ℕ) → made ≡ indexedBy (number c 10) (y .accounts) (set ns 8 0) → left Done (withNumbers made y) ≡ rollbackC c
+unfolding rollbackC rolledC indexedC copiedC clearedC
+rollback-done c x y ns z e f g made h =
+    let whole = f ∙ ap (copiedC 1024 0 256 0 (number c 9) (number c 10)) e in
+    rw (ne-eqb _ _ z)
+    ((λ i. left Done (withNumbers (h i) y))
+    ∙ (λ i. left Done (withNumbers (indexedBy (number c 10) (whole i .accounts) (set (g i) 8 0)) (whole i))))
 
 -- what a commit leaves of the numbers, said of the columns
 pub commit-columns : (c : Cols) (r : Code) (ns : List ℕ) → Commits r (c .numbers) ns → left r (withNumbers ns c) ≡ commitC c

@@ -80,7 +80,7 @@ pub fn begin(
     address: &mut [u8; 65536],
     hash: &mut [u8; 65536],
     accounts: &mut [u8; 16384],
-    numbers: &mut [u64; 16],
+    numbers: &mut [u64; 528],
 ) -> Code
     requires { ⌜ Good (cols (now owner) (now kind) (now form) (now time) (now address) (now hash) (now accounts) (now numbers)) ⌝ }
     ensures { λ r. ⌜ left r (cols (now (owner .exit)) (now (kind .exit)) (now (form .exit)) (now (time .exit)) (now (address .exit)) (now (hash .exit)) (now (accounts .exit)) (now (numbers .exit))) ≡ beginC (cols (now (owner .entry)) (now (kind .entry)) (now (form .entry)) (now (time .entry)) (now (address .entry)) (now (hash .entry)) (now (accounts .entry)) (now (numbers .entry))) ⌝ }
@@ -112,8 +112,8 @@ pub fn begin(
 }
 
 // Forgets what was held at begin.
-pub fn commit(numbers: &mut [u64; 16]) -> Code
-    requires { ⌜ length (now numbers) ≡ 16 ⌝ }
+pub fn commit(numbers: &mut [u64; 528]) -> Code
+    requires { ⌜ length (now numbers) ≡ 528 ⌝ }
     ensures { λ r. ⌜ Commits r (now (numbers .entry)) (now (numbers .exit)) ⌝ }
 {
     let open = numbers[8];
@@ -124,7 +124,7 @@ pub fn commit(numbers: &mut [u64; 16]) -> Code
     Code::Done
 }
 
-// Copies back what was held at begin, into rows made fresh.
+// Copies back what was held at begin, into rows made fresh, and makes the index anew.
 pub fn rollback(
     owner: &mut [u16; 2048],
     kind: &mut [u8; 2048],
@@ -133,7 +133,7 @@ pub fn rollback(
     address: &mut [u8; 65536],
     hash: &mut [u8; 65536],
     accounts: &mut [u8; 16384],
-    numbers: &mut [u64; 16],
+    numbers: &mut [u64; 528],
 ) -> Code
     requires { ⌜ Good (cols (now owner) (now kind) (now form) (now time) (now address) (now hash) (now accounts) (now numbers)) ⌝ }
     ensures { λ r. ⌜ left r (cols (now (owner .exit)) (now (kind .exit)) (now (form .exit)) (now (time .exit)) (now (address .exit)) (now (hash .exit)) (now (accounts .exit)) (now (numbers .exit))) ≡ rollbackC (cols (now (owner .entry)) (now (kind .entry)) (now (form .entry)) (now (time .entry)) (now (address .entry)) (now (hash .entry)) (now (accounts .entry)) (now (numbers .entry))) ⌝ }
@@ -164,5 +164,6 @@ pub fn rollback(
     );
     columns::copy_words(numbers, 9, 2, 6);
     numbers[8] = 0;
+    index::rebuild(accounts, places, numbers);
     Code::Done
 }

@@ -1,6 +1,7 @@
 //! Seeded scenarios, a profile for each corner of the rules that is easy to get wrong.
 
 mod dense;
+mod displays;
 mod externals;
 mod joins;
 mod limits;
@@ -35,6 +36,9 @@ pub const PROFILES: [(&str, Play); 9] = [
 /// Apart from the scenario's own stream, so that terse and full scripts hold the same calls.
 const ASIDE: u64 = 1;
 
+/// Apart from both, so that the other calls are those of a scenario without display lines.
+const SHOWN: u64 = 2;
+
 /// The scenario of this index as text; none if there is no such profile.
 pub fn scenario(profile: &str, seed: u64, index: u64, terse: bool) -> Option<String> {
     let place = PROFILES.iter().position(|(name, _)| *name == profile)?;
@@ -45,5 +49,6 @@ pub fn scenario(profile: &str, seed: u64, index: u64, terse: bool) -> Option<Str
         .script
         .comment(format_args!("{profile} {seed} {index}"));
     PROFILES[place].1(&mut scene);
-    Some(scene.script.text)
+    let shown = Random::of(&[&path[..], &[SHOWN]].concat());
+    Some(displays::among(&scene.script.text, shown))
 }

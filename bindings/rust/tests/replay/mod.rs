@@ -98,7 +98,7 @@ impl World {
     /// A command with its numbers in their ranges, or nothing, and then nothing has changed.
     fn command(&mut self, verb: &[u8], numbers: &[u64]) -> Option<String> {
         match verb {
-            b"fill" | b"isfilled" | b"full" => self.counted(verb, numbers),
+            b"fill" | b"isfilled" | b"full" | b"display" => self.counted(verb, numbers),
             _ => Some(code(self.coded(verb, numbers)?)),
         }
     }
@@ -126,6 +126,10 @@ impl World {
                 let full = u8::from(by_count == FillByCount::IsFull);
                 let fills = u8::from(by_slots == FillBySlots::CanFill);
                 Some(format!("full {full} canfill {fills}"))
+            }
+            (b"display", &[group]) => {
+                let group = self.groups.get(usize::try_from(group).ok()?)?;
+                Some(group.to_string())
             }
             _ => None,
         }

@@ -1,5 +1,6 @@
 -- `buckets::listed` meets its contract: the cells passed hold entries, so what is left is counted (proofs/Entries.antt). Assumes nothing.
 use mathlib.Core.Path.{_≡_}
+use mathlib.Core.List.{List}
 use Prim.Native.Nat.{ℕ, _+_, _*_, _-_, _<_}
 use native.Mathlib.Omega.{arith}
 use lib.ListN.{length, getD}
@@ -11,33 +12,33 @@ use Rattle.buckets.proofs.listed.Statement.{statement}
 use Rattle.buckets.proofs.listed.Tie as tie
 
 abbrev Inv-loop : tie.InvT-loop
-Inv-loop c buckets base k₀ k = Counting (cellsOf buckets c) k
+Inv-loop buckets c base k₀ k = Counting (cellsOf buckets c) k
 
 abbrev μ-loop : tie.MeasureT-loop
-μ-loop c buckets base k₀ k = 64 - k
-
-size : (s : tie.Start Inv-loop μ-loop) → length (s .args .t1) ≡ 1088
-size s = search needs
+μ-loop buckets c base k₀ k = 64 - k
 
 module _ (s : tie.Start Inv-loop μ-loop) where
-  long : length (cellsOf (s .args .t1) (s .args .c)) ≡ 64
-  long = length-cells (s .args .t1) (s .args .c) (size s) (s .pre)
+  abbrev cells : List ℕ
+  cells = s .args .buckets .now
 
-  cell : (k : ℕ) → k < 64 → getD (cellsOf (s .args .t1) (s .args .c)) k 0 ≡ getD (s .args .t1) (64 * s .args .c + k) 0
-  cell k l = cell-at (s .args .t1) (s .args .c) k 0 l
+  long : length (cellsOf cells (s .args .c)) ≡ 64
+  long = length-cells cells (s .args .c) (s .pre .0) (s .pre .1)
+
+  cell : (k : ℕ) → k < 64 → getD (cellsOf cells (s .args .c)) k 0 ≡ getD cells (64 * s .args .c + k) 0
+  cell k l = cell-at cells (s .args .c) k 0 l
 
 returns : tie.Need-returns Inv-loop μ-loop
 unfolding bucketOf
 returns c =
-    let a = c .before .before in
-    let l = c .before .loop-test .taken in
+    let a = c .before .before .before in
+    let l = c .before .before .loop-test .taken in
     let e = cell (a .before) (a .loop .k) l in
     count-found (a .loop .inv) (long (a .before)) l (omega (arith, e, c .if1 .taken))
 
 loop-again : tie.Need-loop-again Inv-loop μ-loop
 loop-again c =
-    let a = c .before .before in
-    let l = c .before .loop-test .taken in
+    let a = c .before .before .before in
+    let l = c .before .before .loop-test .taken in
     let e = cell (a .before) (a .loop .k) l in
     count-step (a .loop .inv) (long (a .before)) l (omega (arith, e, c .if1 .left))
 

@@ -8,7 +8,7 @@ use Rattle.buckets.proofs.put_last.Tie as tie
 
 returns : tie.Need-returns
 returns c =
-    put-leaves (c .before .before .pre) (omega (arith, c .struct-known .given)) (c .before .listed .ensures)
+    put-leaves (c .before .before .before .pre) (omega (arith, c .struct-known .given)) (c .before .listed .ensures)
 
 pub put-last-spec : {M : Type 1} → statement M
 put-last-spec =

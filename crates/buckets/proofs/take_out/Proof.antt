@@ -11,31 +11,28 @@ use Rattle.buckets.proofs.take_out.Statement.{statement}
 use Rattle.buckets.proofs.take_out.Tie as tie
 
 abbrev Inv-loop : tie.InvT-loop
-Inv-loop c buckets₀ base gone i₀ w₀ buckets i w = Taking c gone buckets₀ buckets i w
+Inv-loop buckets₀ c base gone i₀ w₀ buckets i w = Taking c gone buckets₀ buckets i w
 
 abbrev μ-loop : tie.MeasureT-loop
-μ-loop c buckets₀ base gone i₀ w₀ buckets i w = 64 - i
+μ-loop buckets₀ c base gone i₀ w₀ buckets i w = 64 - i
 
 abbrev Inv-loop2 : tie.InvT-loop2
-Inv-loop2 c buckets₀ base gone i w₀ buckets w = Freeing c buckets₀ buckets w₀ w
+Inv-loop2 buckets₀ c base gone i w₀ buckets w = Freeing c buckets₀ buckets w₀ w
 
 abbrev μ-loop2 : tie.MeasureT-loop2
-μ-loop2 c buckets₀ base gone i w₀ buckets w = 64 - w
-
-size : (s : tie.Start Inv-loop μ-loop Inv-loop2 μ-loop2) → length (s .args .t1) ≡ 1088
-size s = search needs
+μ-loop2 buckets₀ c base gone i w₀ buckets w = 64 - w
 
 loop-holds : tie.Need-loop-holds Inv-loop μ-loop Inv-loop2 μ-loop2
-loop-holds c = take-start _ _ _ (size (c .before)) (c .before .pre .1)
+loop-holds c = take-start _ _ _ (c .before .pre .0 .size) (c .before .pre .1)
 
 loop-again : tie.Need-loop-again Inv-loop μ-loop Inv-loop2 μ-loop2
 loop-again c =
-    let a = c .before .before in
+    let a = c .before .before .before in
     let s = a .before .before in
-    let l = c .before .loop-test .taken in
+    let l = c .before .before .loop-test .taken in
     ⊎-elim
-    (λ w. rw (w .1, w .2) (take-keep (a .loop .inv) (size s) (s .pre .1) l (w .0 .taken)))
-    (λ w. rw (w .1, w .2) (take-skip (a .loop .inv) (size s) (s .pre .1) l (w .0 .left)))
+    (λ w. rw (w .1, w .2) (take-keep (a .loop .inv) (s .pre .0 .size) (s .pre .1) l (w .0 .taken)))
+    (λ w. rw (w .1, w .2) (take-skip (a .loop .inv) (s .pre .0 .size) (s .pre .1) l (w .0 .left)))
     (c .if1 .came)
 
 loop2-again : tie.Need-loop2-again Inv-loop μ-loop Inv-loop2 μ-loop2

@@ -97,19 +97,19 @@ module _ {M : Type 1} (𝓤 : URA M) (H : Heap 𝓤) (A : Atoms 𝓤) (W : Given
 
   -- b: what it lends, with the tokens of the lifetimes; and what is kept meanwhile
   abbrev Refs-b : Names-b → Item 𝓤
-  Refs-b n-b = ‵ (ShrRef (named 0) (n-b .ν0 ∷ []) (Array u64 16) .own (x0 (n-b .δ0)) (vptr b-b (o-b + 172032) ∷ []))
+  Refs-b n-b = ‵ (ShrRef (named 0) (n-b .ν0 ∷ []) (Array u64 528) .own (x0 (n-b .δ0)) (vptr b-b (o-b + 172032) ∷ []))
 
   abbrev Tokens-b : Names-b → Item 𝓤
   Tokens-b n-b = ‵ (flft (n-b .ν0 ∷ []) fullShare)
 
   abbrev Kept-b : Names-b → Item 𝓤
-  Kept-b n-b = ‵ (flent (n-b .ν0 ∷ []) (partAt (Array u64 16) fullShare (b .numbers) b-b (o-b + 172032))) ⊛ ‵ (partAt (Array u16 2048) fullShare (b .owner) b-b (o-b + 0)) ⊛ ‵ (partAt (Array u8 2048) fullShare (b .kind) b-b (o-b + 4096)) ⊛ ‵ (partAt (Array u8 2048) fullShare (b .form) b-b (o-b + 6144)) ⊛ ‵ (partAt (Array u64 2048) fullShare (b .time) b-b (o-b + 8192)) ⊛ ‵ (partAt (Array u8 65536) fullShare (b .address) b-b (o-b + 24576)) ⊛ ‵ (partAt (Array u8 65536) fullShare (b .hash) b-b (o-b + 90112)) ⊛ ‵ (partAt (Array u8 16384) fullShare (b .accounts) b-b (o-b + 155648)) ⊛ raw (BufferBack 𝓤 H A b-b o-b) ⊛ ‵ (fobor κ-b q-b (Body (mem Buffer.the-row) b-b o-b γ-b)) ⊛ ‵ (fobs γ-b (Buffer.the-row .coded .code b)) ⊛ ‵ (fauth γ-b (Buffer.the-row .coded .code b))
+  Kept-b n-b = ‵ (flent (n-b .ν0 ∷ []) (partAt (Array u64 528) fullShare (b .numbers) b-b (o-b + 172032))) ⊛ ‵ (partAt (Array u16 2048) fullShare (b .owner) b-b (o-b + 0)) ⊛ ‵ (partAt (Array u8 2048) fullShare (b .kind) b-b (o-b + 4096)) ⊛ ‵ (partAt (Array u8 2048) fullShare (b .form) b-b (o-b + 6144)) ⊛ ‵ (partAt (Array u64 2048) fullShare (b .time) b-b (o-b + 8192)) ⊛ ‵ (partAt (Array u8 65536) fullShare (b .address) b-b (o-b + 24576)) ⊛ ‵ (partAt (Array u8 65536) fullShare (b .hash) b-b (o-b + 90112)) ⊛ ‵ (partAt (Array u8 16384) fullShare (b .accounts) b-b (o-b + 155648)) ⊛ raw (BufferBack 𝓤 H A b-b o-b) ⊛ ‵ (fobor κ-b q-b (Body (mem Buffer.the-row) b-b o-b γ-b)) ⊛ ‵ (fobs γ-b (Buffer.the-row .coded .code b)) ⊛ ‵ (fauth γ-b (Buffer.the-row .coded .code b))
 
   lend-b : ent 𝓤 (mean 𝓤 H A (‵ (fobs γ-b (Buffer.the-row .coded .code b)) ⊛ ‵ (fbor κ-b (Body (mem Buffer.the-row) b-b o-b γ-b)) ⊛ ‵ (flft κ-b q-b))) (mean 𝓤 H A (later (some (λ (n-b : Names-b). Refs-b n-b ⊛ (Tokens-b n-b ⊛ Kept-b n-b)))))
   lend-b =
       qed W ((‵ (fobs γ-b (Buffer.the-row .coded .code b)) ⊛ ‵ (fbor κ-b (Body (mem Buffer.the-row) b-b o-b γ-b)) ⊛ ‵ (flft κ-b q-b)) ∷ []) ∵
-      updating ! $ split ! $ move ! (1 ∷ []) $ split ! $ move ! (2 ∷ 0 ∷ 1 ∷ []) $ open-ref ! tt (mem Buffer.the-row) {x = b} {b = b-b} {o = o-b} $ use1 W (‵ (partAt (Array u16 2048) fullShare (b .owner) b-b (o-b + 0)) ⊛ ‵ (partAt (Array u8 2048) fullShare (b .kind) b-b (o-b + 4096)) ⊛ ‵ (partAt (Array u8 2048) fullShare (b .form) b-b (o-b + 6144)) ⊛ ‵ (partAt (Array u64 2048) fullShare (b .time) b-b (o-b + 8192)) ⊛ ‵ (partAt (Array u8 65536) fullShare (b .address) b-b (o-b + 24576)) ⊛ ‵ (partAt (Array u8 65536) fullShare (b .hash) b-b (o-b + 90112)) ⊛ ‵ (partAt (Array u8 16384) fullShare (b .accounts) b-b (o-b + 155648)) ⊛ ‵ (partAt (Array u64 16) fullShare (b .numbers) b-b (o-b + 172032)) ⊛ raw (BufferBack 𝓤 H A b-b o-b)) (buffer-apart 𝓤 H A W b b-b o-b) $ split ! $ move ! (1 ∷ []) $ split ! $ move ! (1 ∷ []) $ split ! $ move ! (1 ∷ []) $ split ! $ move ! (1 ∷ []) $ split ! $ move ! (1 ∷ []) $ split ! $ move ! (1 ∷ []) $ split ! $ move ! (1 ∷ []) $ split ! $
-      lft-new ! tt (λ ν0. move ! (1 ∷ []) $ use1 W (later (some (λ (δ0 : GName). ‵ (ShrRef (named 0) (ν0 ∷ []) (Array u64 16) .own (x0 (δ0)) (vptr b-b (o-b + 172032) ∷ [])) ⊛ ‵ (flent (ν0 ∷ []) (partAt (Array u64 16) fullShare (b .numbers) b-b (o-b + 172032)))))) (lends-shr 𝓤 H A W (Array u64 16) (named 0) (ν0 ∷ []) fullShare (b .numbers) b-b (o-b + 172032)) $ await ! tt $ pick ! (λ δ0. split ! $
+      updating ! $ split ! $ move ! (1 ∷ []) $ split ! $ move ! (2 ∷ 0 ∷ 1 ∷ []) $ open-ref ! tt (mem Buffer.the-row) {x = b} {b = b-b} {o = o-b} $ use1 W (‵ (partAt (Array u16 2048) fullShare (b .owner) b-b (o-b + 0)) ⊛ ‵ (partAt (Array u8 2048) fullShare (b .kind) b-b (o-b + 4096)) ⊛ ‵ (partAt (Array u8 2048) fullShare (b .form) b-b (o-b + 6144)) ⊛ ‵ (partAt (Array u64 2048) fullShare (b .time) b-b (o-b + 8192)) ⊛ ‵ (partAt (Array u8 65536) fullShare (b .address) b-b (o-b + 24576)) ⊛ ‵ (partAt (Array u8 65536) fullShare (b .hash) b-b (o-b + 90112)) ⊛ ‵ (partAt (Array u8 16384) fullShare (b .accounts) b-b (o-b + 155648)) ⊛ ‵ (partAt (Array u64 528) fullShare (b .numbers) b-b (o-b + 172032)) ⊛ raw (BufferBack 𝓤 H A b-b o-b)) (buffer-apart 𝓤 H A W b b-b o-b) $ split ! $ move ! (1 ∷ []) $ split ! $ move ! (1 ∷ []) $ split ! $ move ! (1 ∷ []) $ split ! $ move ! (1 ∷ []) $ split ! $ move ! (1 ∷ []) $ split ! $ move ! (1 ∷ []) $ split ! $ move ! (1 ∷ []) $ split ! $
+      lft-new ! tt (λ ν0. move ! (1 ∷ []) $ use1 W (later (some (λ (δ0 : GName). ‵ (ShrRef (named 0) (ν0 ∷ []) (Array u64 528) .own (x0 (δ0)) (vptr b-b (o-b + 172032) ∷ [])) ⊛ ‵ (flent (ν0 ∷ []) (partAt (Array u64 528) fullShare (b .numbers) b-b (o-b + 172032)))))) (lends-shr 𝓤 H A W (Array u64 528) (named 0) (ν0 ∷ []) fullShare (b .numbers) b-b (o-b + 172032)) $ await ! tt $ pick ! (λ δ0. split ! $
       at-once ! $ show ! (λ (n-b : Names-b). mean 𝓤 H A (Refs-b n-b ⊛ (Tokens-b n-b ⊛ Kept-b n-b))) (record { ν0 = ν0; δ0 = δ0 }) $ move ! (12 ∷ 13 ∷ []) $ join ! $ move ! (12 ∷ 0 ∷ []) $ join ! $ move ! (4 ∷ 0 ∷ []) $ join ! $ move ! (4 ∷ 0 ∷ []) $ join ! $ move ! (4 ∷ 0 ∷ []) $ join ! $ move ! (4 ∷ 0 ∷ []) $ join ! $ move ! (4 ∷ 0 ∷ []) $ join ! $ move ! (4 ∷ 0 ∷ []) $ join ! $ move ! (4 ∷ 0 ∷ []) $ join ! $ move ! (4 ∷ 0 ∷ []) $ join ! $ move ! (2 ∷ 0 ∷ []) $ join ! $ move ! (2 ∷ 0 ∷ []) $ join ! $ move ! (1 ∷ 0 ∷ []) $ join ! $ done !))
 
   back-b : (n-b : Names-b) → ent 𝓤 (mean 𝓤 H A (Kept-b n-b ⊛ (Tokens-b n-b))) (mean 𝓤 H A (later (‵ (fobs γ-b (Buffer.the-row .coded .code (b))) ⊛ ‵ (fbor κ-b (Body (mem Buffer.the-row) b-b o-b γ-b)) ⊛ ‵ (flft κ-b q-b))))
@@ -122,7 +122,7 @@ module _ {M : Type 1} (𝓤 : URA M) (H : Heap 𝓤) (A : Atoms 𝓤) (W : Given
   goes-to-core : Req → (n-b : Names-b) → ent 𝓤 (mean 𝓤 H A (Refs-b n-b ⊛ Tokens-b n-b)) (Core 𝓤 H A at-mem run .pre (to-core n-b))
   goes-to-core pre n-b =
       qed W ((Refs-b n-b ⊛ Tokens-b n-b) ∷ []) ∵
-      split ! $ says ! (pre .sixteen) $ nothing ! $ move ! (2 ∷ 0 ∷ []) $ join ! $ nothing ! $ move ! (2 ∷ 0 ∷ []) $ fjoin ! $ move ! (1 ∷ 0 ∷ []) $ frame ! $ done !
+      split ! $ says ! (pre .many) $ nothing ! $ move ! (2 ∷ 0 ∷ []) $ join ! $ nothing ! $ move ! (2 ∷ 0 ∷ []) $ fjoin ! $ move ! (1 ∷ 0 ∷ []) $ frame ! $ done !
 
   -- what is owned on entry is lent
   begins : Req → ent 𝓤 (mean 𝓤 H A ((‵ (flft κ-b q-b) ⊛ ‵ (ftrue)) ⊛ ‵ (owns (MutRef (named 0) κ-b Buffer.the-row ∷ []) handed vals))) (mean 𝓤 H A (later (some (λ (n-b : Names-b). raw (Core 𝓤 H A at-mem run .pre (to-core n-b)) ⊛ (Kept-b n-b)))))

@@ -1,4 +1,4 @@
--- `indexing::list_new` meets its contract: each new slot is put last in the bucket of its count (Listing, crate `buckets`). Assumes nothing.
+-- `indexing::list_new` meets its contract: each new slot is put last in the bucket of its count (crates/buckets/proofs/Listing.antt). Assumes nothing.
 use Prim.Native.Nat.{_-_}
 use native.Mathlib.Omega.{arith}
 use borrow.Author.Needs.{needs}
@@ -18,13 +18,13 @@ loop-holds c = list-start (c .before .before .pre)
 
 put-last-requires : tie.Need-put-last-requires Inv-loop μ-loop
 put-last-requires c κs =
-    let b = c .before .before .before in
+    let b = c .before .before .before .before in
     let a = b .before in
     rw (c .before .wide8 .ensures .0) (list-put (a .before .before .before .pre) (a .loop .inv) (b .loop-test .taken))
 
 loop-again : tie.Need-loop-again Inv-loop μ-loop
 loop-again c =
-    let b = c .before .before .before .before in
+    let b = c .before .before .before .before .before in
     let a = b .before in
     list-step (a .before .before .before .pre) (a .loop .inv) (b .loop-test .taken)
     (rw (c .before .before .wide8 .ensures .0) at (c .put-last .ensures))

@@ -8,7 +8,7 @@ use Rattle.indexing.proofs.moved.Tie as tie
 returns : tie.Need-returns
 unfolding movedOn
 returns c =
-    let b = c .before in
+    let b = c .before .before in
     rw (b .if1 .taken, ← b .before .put-last .ensures .holds) (c .take-out .ensures)
 
 returns-2 : tie.Need-returns-2

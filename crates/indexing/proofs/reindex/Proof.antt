@@ -1,4 +1,4 @@
--- `indexing::reindex` meets its contract: each changed slot is moved on, and the buckets that were left are remembered (Moving, crate `buckets`).
+-- `indexing::reindex` meets its contract: each changed slot is moved on, and the buckets that were left are remembered (crates/buckets/proofs/Moving.antt).
 -- Assumes nothing.
 use mathlib.Core.Logic.{⊎-elim}
 use Prim.Native.Nat.{_-_}
@@ -23,13 +23,13 @@ loop-holds c = move-start (c .before .before .before .pre)
 
 array-read-moved : tie.Need-array-read-moved Inv-loop μ-loop
 array-read-moved c =
-    let w = c .before .before .before .before in
+    let w = c .before .before .before .before .before in
     let b = w .before .before in
     omega (arith, w .wide8 .ensures .0, start b .pre .low (b .before .loop .i) (b .loop-test .taken) .0)
 
 moved-requires : tie.Need-moved-requires Inv-loop μ-loop
 moved-requires c κs =
-    let w2 = c .before .before in
+    let w2 = c .before .before .before in
     let w = w2 .before .before in
     let b = w .before .before in
     let v = b .before .loop .inv in
@@ -37,11 +37,11 @@ moved-requires c κs =
     let p = start b .pre in
     let old = w .wide8 .ensures .0 in
     let new = w2 .wide82 .ensures .0 in
-    (rw new (may-put p v l (λ e. omega (arith, e, c .before .if1 .taken, old, new))), rw old (p .low _ l .0))
+    (rw new (may-put p v l (λ e. omega (arith, e, c .before .before .if1 .taken, old, new))), rw old (p .low _ l .0))
 
 array-write-left : tie.Need-array-write-left Inv-loop μ-loop
 array-write-left c =
-    let w = c .before .before .before .before .before in
+    let w = c .before .before .before .before .before .before in
     let b = w .before .before in
     omega (arith, w .wide8 .ensures .0, start b .pre .low (b .before .loop .i) (b .loop-test .taken) .0)
 
@@ -56,7 +56,7 @@ loop-again c =
     let old = w .wide8 .ensures .0 in
     let new = w2 .wide82 .ensures .0 in
     ⊎-elim
-    (λ d. rw (d .3, d .4, old) (move-on p v l (λ e. omega (arith, e, d .0 .taken, old, new)) (rw (old, new) at (d .2 .ensures))))
+    (λ d. rw (d .4, d .5, old) (move-on p v l (λ e. omega (arith, e, d .0 .taken, old, new)) (rw (old, new) at (d .3 .ensures))))
     (λ d. rw (d .1, d .2) (move-skip p v l (omega (arith, d .0 .left, old, new))))
     (c .if1 .came)
 

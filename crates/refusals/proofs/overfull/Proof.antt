@@ -1,14 +1,18 @@
--- `refusals::overfull` meets its contract: the slots listed are those of the buckets below the height. Assumes nothing.
+-- `refusals::overfull` meets its contract: no slot is listed below the height, or those listed are looked at. Assumes nothing.
+use mathlib.Core.Path.{sym, _∙_}
 use Prim.Native.Nat.{ℕ}
 use lib.ListN.{length-replicate}
 use borrow.Author.Needs.{needs}
-use Rattle.refusals.proofs.Looks.{listed-long, listed-front}
+use Rattle.refusals.proofs.Looks.{none-above, listed-long, listed-front}
 use Rattle.refusals.proofs.overfull.Statement.{statement}
 use Rattle.refusals.proofs.overfull.Tie as tie
 
+returns : tie.Need-returns
+returns c = none-above _ _ _ _ _ _ (sym (c .before .none-below .ensures) ∙ c .if1 .taken)
+
 some-above-requires : tie.Need-some-above-requires
 some-above-requires c κs =
-    let p = c .before .before .before .pre in
+    let p = c .before .before .before .before .before .pre in
     let l = c .before .list-below .ensures in
     record {
       number-long = p .0;
@@ -17,8 +21,8 @@ some-above-requires c κs =
       fits = l .few;
     }
 
-returns : tie.Need-returns
-returns c = rw (listed-front (c .before .before .list-below .ensures) (length-replicate {A = ℕ} 1024 0)) at (c .some-above .ensures)
+returns-2 : tie.Need-returns-2
+returns-2 c = rw (listed-front (c .before .before .list-below .ensures) (length-replicate {A = ℕ} 1024 0)) at (c .some-above .ensures)
 
 pub overfull-spec : {M : Type 1} → statement M
-overfull-spec = tie.close (tie.spec (λ c κs. search needs) some-above-requires returns)
+overfull-spec = tie.close (tie.spec (λ c κs. search needs) returns (λ c κs. search needs) some-above-requires returns-2)

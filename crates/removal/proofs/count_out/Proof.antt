@@ -1,4 +1,6 @@
--- `removal::count_out` meets its contract: what went is the messages before without those left, and the internals lose as many. Assumes nothing.
+-- `removal::count_out` meets its contract: what went is the messages before without those left, and the internals lose as many; then the
+-- index is made anew. Assumes nothing.
+use mathlib.Core.Path.{_∙_}
 use borrow.Author.Needs.{needs}
 use Rattle.queues.specs.Compact.{leftNumbers}
 use Rattle.removal.proofs.count_out.Statement.{statement}
@@ -6,10 +8,12 @@ use Rattle.removal.proofs.count_out.Tie as tie
 
 returns : tie.Need-returns
 unfolding leftNumbers
-returns c = rw (c .less2 .ensures, c .before .before .less .ensures)
+returns c =
+    let l = c .before .before in
+    c .rebuild .ensures ∙ rw (l .less2 .ensures, l .before .before .less .ensures)
 
 pub count-out-spec : {M : Type 1} → statement M
 count-out-spec =
     tie.close
     (tie.spec (λ c. search needs) (λ c κs. search needs) (λ c. search needs) (λ c κs. search needs) (λ c. search needs) (λ c. search needs)
-    (λ c. search needs) returns)
+    (λ c. search needs) (λ c κs. search needs) returns)

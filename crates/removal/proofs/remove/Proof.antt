@@ -3,8 +3,8 @@
 use mathlib.Core.Path.{refl}
 use mathlib.Core.List.{[]}
 use borrow.Author.Needs.{needs}
-use Rattle.queues.specs.Cols.{Cols, cols}
-use Rattle.removal.proofs.Removing.{seated, owned, refused, removed, few, long, whole, length-seated}
+use Rattle.queues.specs.Cols.{Cols, cols, withNumbers}
+use Rattle.removal.proofs.Removing.{seated, owned, refused, removed, few, long, whole, length-seated, indexable}
 use Rattle.removal.proofs.remove.Statement.{statement}
 use Rattle.removal.proofs.remove.Tie as tie
 
@@ -52,11 +52,16 @@ compact-requires c κs =
     ((few _ g, seated _ g, length-seated (b .seat-unnamed .ensures)), long _ g)
 
 count-out-requires : tie.Need-count-out-requires
-count-out-requires c κs = start (seats (none (c .before .before) .before)) .pre .sixteen
+count-out-requires c κs =
+    let d = c .before .before in
+    let b = seats (none (d .before) .before) in
+    let g = start b .pre in
+    let fits = indexable {c₀ = withNumbers [] (columns (start b))} {c₁ = packed d} (seated _ g) (g .lengths .accounts) (b .seat-unnamed .ensures) (d .compact .ensures) in
+    (fits .0, fits .1, g .many)
 
 returns-2 : tie.Need-returns-2
 returns-2 c =
-    let d = c .before .before in
+    let d = c .before .before .before in
     let e = none (d .before) in
     let b = seats (e .before) in
     removed (start b .args .names .now) (columns (start b)) _ _ _ (b .seat-unnamed .ensures) (e .before .lost-externals .ensures) (e .if1 .left)

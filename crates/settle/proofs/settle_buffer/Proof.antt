@@ -1,13 +1,14 @@
--- `settle::settle_buffer` meets its contract: the packing by the seats, and the numbers put right (proofs/Settling.antt). Assumes
--- nothing.
-use mathlib.Core.Path.{sym, subst}
+-- `settle::settle_buffer` meets its contract: the packing by the seats, the numbers put right, and the index made anew
+-- (proofs/Settling.antt). Assumes nothing.
+use mathlib.Core.Path.{sym, ap, subst, _∙_}
 use mathlib.Core.List.{[]}
 use Prim.Native.Nat.{ℕ, _≤_}
+use lib.ListN.{length}
 use borrow.Author.Needs.{needs}
 use Rattle.queues.specs.Cols.{Cols, cols}
-use Rattle.removal.proofs.Removing.{few, seated, length-seated}
+use Rattle.removal.proofs.Removing.{few, seated, length-seated, indexable}
 use Rattle.settle.proofs.Seats.{count-le}
-use Rattle.settle.proofs.Settling.{lent-long, left-few, kind-long, settled}
+use Rattle.settle.proofs.Settling.{lent, counts-long, lent-long, left-few, kind-long, settled}
 use Rattle.settle.proofs.settle_buffer.Statement.{statement}
 use Rattle.settle.proofs.settle_buffer.Tie as tie
 
@@ -23,33 +24,58 @@ packed d =
     let y = x .1 .1 .1 in
     cols (x .0) (x .1 .0) (x .1 .1 .0) (y .0) (y .1 .0) (y .1 .1 .0) (y .1 .1 .1 .0) []
 
+-- the calls before a place
+abbrev back : tie.After-compact-arg7 → tie.After-copy-back
+back c = c .before .before .before .before .before .before .before .before
+
+abbrev seats : tie.After-copy-back → tie.After-seat-holders
+seats c = c .before .before
+
+abbrev start : tie.After-copy-back → tie.Start
+start c = seats c .before .before .before .before
+
 compact-requires : tie.Need-compact-requires
 compact-requires c κs =
-    let s = c .before .before .before .before .before .before .before .before .before .before .before .before .before .before in
+    let o = back c in
+    let s = start o in
     let g = s .pre .0 in
-    ((few _ g, seated _ g, length-seated (c .before .before .before .before .before .before .before .before .before .before .seat-holders .ensures)), lent-long (s .args .left .now) (columns s) g (s .pre .1) _ (c .before .before .before .before .before .before .before .before .copy-back .ensures))
+    ((few _ g, seated _ g, length-seated (seats o .seat-holders .ensures)), lent-long (s .args .left .now) (columns s) g (s .pre .1) _ (o .copy-back .ensures))
 
 count-internals-requires : tie.Need-count-internals-requires
 count-internals-requires c κs =
-    let s = c .before .before .before .before .before .before .before .before .before .before .before .before .before .before .before .before in
-    let g = s .pre .0 in
     let d = c .before in
-    let o = c .before .before .before .before .before .before .before .before .before .before .copy-back .ensures in
-    (left-few (s .args .left .now) (columns s) g (s .pre .1) _ o {c₁ = packed d} (d .compact .ensures), kind-long (s .args .left .now) (columns s) g (s .pre .1) _ o {c₁ = packed d} (d .compact .ensures))
+    let o = back (d .before) in
+    let s = start o in
+    let g = s .pre .0 in
+    let e = o .copy-back .ensures in
+    (left-few (s .args .left .now) (columns s) g (s .pre .1) _ e {c₁ = packed d} (d .compact .ensures), kind-long (s .args .left .now) (columns s) g (s .pre .1) _ e {c₁ = packed d} (d .compact .ensures))
 
 count-left-requires : tie.Need-count-left-requires
 count-left-requires c κs =
     let d = c .before .before .before in
-    (subst (λ (x : ℕ). x ≤ d .compact .result) (sym (c .before .count-internals .ensures)) (count-le (packed d .kind) (d .compact .result) 0), c .before .before .before .before .before .before .before .before .before .before .before .before .before .before .before .before .before .before .pre .0 .sixteen)
+    (subst (λ (x : ℕ). x ≤ d .compact .result) (sym (c .before .count-internals .ensures)) (count-le (packed d .kind) (d .compact .result) 0), start (back (d .before)) .pre .0 .many)
+
+rebuild-requires : tie.Need-rebuild-requires
+rebuild-requires c κs =
+    let n = c .before .before in
+    let d = n .before .before .before .before in
+    let o = back (d .before) in
+    let s = start o in
+    let g = s .pre .0 in
+    let fits = indexable {c₀ = lent _ (columns s)} {c₁ = packed d} (seated _ g) (g .lengths .accounts) (seats o .seat-holders .ensures) (d .compact .ensures) in
+    (fits .0, fits .1, ap length (n .count-left .ensures) ∙ counts-long _ _ _ (s .args .numbers .now) ∙ g .many)
 
 returns : tie.Need-returns
 returns c =
-    let s = c .before .before .before .before .before .before .before .before .before .before .before .before .before .before .before .before .before .before .before in
-    let d = c .before .before .before .before in
-    settled (s .args .left .now) (columns s) _ (c .before .before .before .before .before .before .before .before .before .before .before .before .before .copy-back .ensures) _ _ (c .before .before .before .before .before .before .before .before .before .before .before .before .before .before .before .seat-holders .ensures) (packed d) _ (d .compact .ensures) _ (c .before .before .count-internals .ensures) _ (c .count-left .ensures)
+    let n = c .before .before .before in
+    let k = n .before .before in
+    let d = k .before .before in
+    let o = back (d .before) in
+    let s = start o in
+    settled (s .args .left .now) (columns s) _ (o .copy-back .ensures) _ _ (seats o .seat-holders .ensures) (packed d) _ (d .compact .ensures) _ (k .count-internals .ensures) _ (n .count-left .ensures) _ (c .rebuild .ensures)
 
 pub settle-buffer-spec : {M : Type 1} → statement M
 settle-buffer-spec =
     tie.close
     (tie.spec (λ c. search needs) (λ c. search needs) (λ c κs. search needs) (λ c κs. search needs) compact-requires count-internals-requires
-    count-left-requires returns)
+    count-left-requires rebuild-requires returns)

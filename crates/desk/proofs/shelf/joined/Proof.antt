@@ -1,9 +1,9 @@
--- `desk::shelf::join` meets its contract: each turn leaves two well formed groups. Assumes nothing.
+-- `desk::shelf::joined` meets its contract: each turn leaves two well formed groups. Assumes nothing.
 use Prim.Native.Nat.{_-_}
 use borrow.Author.Needs.{needs}
 use Rattle.lintelsong.specs.Closed.{GoodGroup}
-use Rattle.desk.proofs.shelf.join.Statement.{statement}
-use Rattle.desk.proofs.shelf.join.Tie as tie
+use Rattle.desk.proofs.shelf.joined.Statement.{statement}
+use Rattle.desk.proofs.shelf.joined.Tie as tie
 
 abbrev Inv-loop : tie.InvT-loop
 Inv-loop times j₀ count₀ j count = GoodGroup (j .left) × GoodGroup (j .right)
@@ -21,10 +21,10 @@ loop-again : tie.Need-loop-again Inv-loop μ-loop
 loop-again c = c .join2 .ensures .good
 
 returns : tie.Need-returns Inv-loop μ-loop
-returns c = c .before .before .before .before .loop .inv
+returns c = c .before .loop .inv
 
-pub join-spec : {M : Type 1} → statement M
-join-spec =
+pub joined-spec : {M : Type 1} → statement M
+joined-spec =
     tie.close
     (tie.spec Inv-loop μ-loop (λ c κs. search needs) loop-holds join-requires-2 (λ c. search needs) (λ c. search needs) loop-again
-    (λ c κs. tt) returns)
+    returns)

@@ -1,4 +1,4 @@
-// What the export does, on lent columns: the fill, and its answer in numbers. The group's columns have a 2.
+// The fill for C and Rust on lent columns, below its export: the fill of crate `fills`, and its answer in numbers. The group's columns have a 2.
 ghost use mathlib.Core.Path.{_≡_};
 ghost use Rattle.queues.specs.Cols.{cols};
 ghost use Rattle.queues.specs.Good.{Good};
@@ -6,7 +6,7 @@ ghost use Rattle.slots.specs.Good.{Good as GroupGood};
 ghost use Rattle.skipped.specs.Sets.{GoodRows};
 ghost use Rattle.slots.specs.Table.{table};
 ghost use Rattle.fill_rules.specs.Fills.{callOf, keys, left};
-ghost use Rattle.export_fill.specs.Lent.{filterBy, FillsBy};
+ghost use Rattle.fill_cores.specs.Lent.{filterBy, FillsBy};
 use message::Filter;
 
 // A filter by two numbers: off if the first is 0, else below the second.
@@ -28,7 +28,7 @@ pub fn fill(
     address: &mut [u8; 65536],
     hash: &mut [u8; 65536],
     accounts: &mut [u8; 16384],
-    numbers: &mut [u64; 16],
+    numbers: &mut [u64; 528],
     number2: &mut [u16; 64],
     ints2: &mut [u8; 64],
     exts2: &mut [u8; 64],

@@ -1,7 +1,7 @@
--- `cores::filter_by` meets its contract: by the test. Assumes nothing.
+-- `fill_cores::filter_by` meets its contract: by the test. Assumes nothing.
 use borrow.Author.Tests.{eq-eqb, ne-eqb}
-use Rattle.export_fill.proofs.cores.filter_by.Statement.{statement}
-use Rattle.export_fill.proofs.cores.filter_by.Tie as tie
+use Rattle.fill_cores.proofs.filter_by.Statement.{statement}
+use Rattle.fill_cores.proofs.filter_by.Tie as tie
 
 returns : tie.Need-returns
 returns c = rw (eq-eqb _ _ (c .if1 .taken))

@@ -1,4 +1,4 @@
--- `cores::fill` meets its contract: the fill's own, with its answer in numbers. Assumes nothing.
+-- `fill_cores::fill` meets its contract: the fill's own, with its answer in numbers. Assumes nothing.
 use borrow.Author.Needs.{needs}
 use mathlib.Core.Path.{_≡_, refl, subst}
 use Rattle.message.specs.declared.Filter.{Filter}
@@ -6,8 +6,8 @@ use Rattle.queues.specs.Cols.{cols}
 use Rattle.entry_rules.specs.Calling.{Call}
 use Rattle.slots.specs.Table.{table}
 use Rattle.fill_rules.specs.Fills.{callOf, Keys, Says, says, Left, Fills}
-use Rattle.export_fill.proofs.cores.fill.Statement.{statement}
-use Rattle.export_fill.proofs.cores.fill.Tie as tie
+use Rattle.fill_cores.proofs.fill.Statement.{statement}
+use Rattle.fill_cores.proofs.fill.Tie as tie
 
 with-filter : (v : Filter → Call) {x y : Filter} {k : Keys} {a : Says} {z : Left} → x ≡ y → Fills (v x) k a z → Fills (v y) k a z
 with-filter v {x} {y} {k} {a} {z} e f = subst (λ (w : Filter). Fills (v w) k a z) e f
