@@ -767,43 +767,48 @@ BUFFER = Struct('Buffer', [
     Field('owner', 16, 2048), Field('kind', 8, 2048), Field('form', 8, 2048), Field('time', 64, 2048),
     Field('address', 8, 65536), Field('hash', 8, 65536), Field('accounts', 8, 16384), Field('numbers', 64, 528)])
 BUFFER_USES = '''
-use mathlib.Core.Path.{sym, _∙_}
-use lib.Dec.{leb}
-use lib.ListN.{getD}
+use mathlib.Core.Path.{subst, _∙_}
 use Prim.Native.Nat.{_/_}
 use Rattle.columns.specs.Rows.{rowsOf}
 use Rattle.rules.specs.Calls.{setUpBuffer, addMessage, removeAccounts, begin as beginBy, rollback as rollbackBy}
 use Rattle.message.specs.Real.{Real, offer}
-use Rattle.queues.specs.Cols.{cols, number, live, kept}
-use Rattle.queues.specs.Meant.{meant, bufferOf}
-use Rattle.queues.specs.Look.{ownedBy, seatOf}
+use Rattle.message.specs.declared.SeenAccount.{SeenAccount}
+use Rattle.message.specs.declared.SeenMessage.{SeenMessage}
+use Rattle.queues.specs.Cols.{cols}
+use Rattle.queues.specs.Meant.{meant}
 use Rattle.queues.specs.Append.{addC}
 use Rattle.queues.specs.Compact.{removeC}
 use Rattle.queues.specs.Transact.{beginC, rollbackC}
-use Rattle.buffer_rules.proofs.LookRule.{queued-told, full-told}
+use Rattle.buffer_reads.specs.declared.Filled.{Filled}
+use Rattle.buffer_reads.specs.Lent.{countsIn, marked, lowestIn, filledIn}
+use Rattle.buffer_reads.proofs.Looks.{counts-seen, least-seen, open-seen, filled-seen}
+use Rattle.buffer_seen.specs.Lent.{queuedIn, accountFound, messageFound}
+use Rattle.buffer_seen.proofs.Looks.{queued-seen, account-seen, message-seen, accounts-in, owners-in, messages-in}
 use Rattle.buffers.specs.Buffers.{setUpC}
-use Rattle.buffers.proofs.Looks.{open-is, counts-are}
-use Rattle.export_parts.specs.Parts.{bit, Told, ToldMessage}
-use Rattle.export_buffer.specs.Lent.{Gives, Commits, marked, lowestIn, readAs, listed, messageOf, foundAccount, foundMessage}
+use Rattle.export_parts.specs.Parts.{bit, messageOf, Told, ToldMessage}
+use Rattle.buffer_cores.specs.Told.{Gives, listed}
+use Rattle.export_buffer.specs.Lent.{Commits}
 use Rattle.export_buffer.specs.Held.{colsOf, GoodBuffer}
-use Rattle.export_buffer.proofs.Answers.{committed, slots-never, account-seen, message-seen, rows-in, places-in, messages-in}
+use Rattle.export_buffer.proofs.Answers.{committed}
 '''
 
 
-def on_buffer(name, core, params, result, did, **more):
-    """A call on a buffer; `after` stands for the columns that a call of all columns leaves."""
+def on_buffer(name, params, result, did, core=None, **more):
+    """A call on a buffer; `after` stands for the columns that a call of all columns leaves. Its core is in crate buffer_cores, unless named."""
     after = 'cols b·owner b·kind b·form b·time b·address b·hash b·accounts b·numbers'
-    return dict(fn='lintelsong_buffer_' + name, core='cores.' + core, params=params, result=result, did=did.replace('after', '(%s)' % after), uses=BUFFER_USES, **more)
+    return dict(fn='lintelsong_buffer_' + name, core=core or name, home=None if core else 'buffer_cores', params=params, result=result,
+                did=did.replace('after', '(%s)' % after), uses=BUFFER_USES, **more)
 
 
 def changes(name, rule, model, more=()):
     """A call that changes all columns."""
-    return on_buffer(name, name, [struct('b', BUFFER, 'all')] + list(more), 8, 'Gives (%s (meant (colsOf b))) (%s (colsOf b)) r after' % (rule, model), req='GoodBuffer b')
+    return on_buffer(name, [struct('b', BUFFER, 'all')] + list(more), 8, 'Gives (%s (meant (colsOf b))) (%s (colsOf b)) r after' % (rule, model),
+                     core='cores.' + name, req='GoodBuffer b')
 
 
 def reads(name, shares, did, says, more=(), result=8, core_req='pre .many'):
     """A call that changes nothing of the buffer."""
-    return on_buffer(name, name, [struct('b', BUFFER, shares=shares)] + list(more), result, did, says='(%s, refl)' % says, req='GoodBuffer b', core_req=core_req)
+    return on_buffer(name, [struct('b', BUFFER, shares=shares)] + list(more), result, did, says='(%s, refl)' % says, req='GoodBuffer b', core_req=core_req)
 
 
 SKIPPED = Struct('Skipped', [Field('accounts', 8, 16384), Field('held', 64)])
@@ -823,7 +828,7 @@ use Rattle.export_skipped.specs.Held.{GoodSet, accountsIn}
 
 def on_skipped(name, params, result, did, **more):
     """A call on a skipped set."""
-    return dict(fn='lintelsong_skipped_' + name, core='cores.' + name, params=params, result=result, did=did, uses=SKIPPED_USES, **more)
+    return dict(fn='lintelsong_skipped_' + name, core=name, home='skipped_cores', params=params, result=result, did=did, uses=SKIPPED_USES, **more)
 
 
 GROUP = Struct('Group', [
@@ -840,17 +845,20 @@ use Rattle.group_rules.proofs.GroupLook.{contains-told}
 use Rattle.group_reads.specs.Shown.{lineFor}
 use Rattle.group_reads.specs.Lent.{countsIn, emptyIn, filledIn, lastIn}
 use Rattle.group_reads.proofs.Looks.{counts-seen, empty-seen, filled-seen, last-seen, displayed}
-use Rattle.group_seen.specs.Lent.{holds, entryIn, idFound, slotFound, accountFound, messageFound, rowFor}
+use Rattle.slots_seen.specs.Slots.{slotFound, entryIn, idFound}
+use Rattle.accounts_seen.specs.Accounts.{holds, accountFound}
+use Rattle.messages_seen.specs.Messages.{rowFor, messageFound}
 use Rattle.group_seen.proofs.Looks.{slot-seen, account-seen, slot-account-seen, message-seen, bucket-seen, accounts-in, slots-in, messages-in}
 use Rattle.export_parts.specs.Parts.{bit, Told, ToldMessage}
-use Rattle.group_cores.specs.Told.{SetsUp, listed, ToldId, ToldSlot}
+use Rattle.group_parts.specs.Told.{listed, ToldId, ToldSlot}
+use Rattle.group_cores.specs.Told.{SetsUp}
 use Rattle.group_cores.proofs.Answers.{same-id, same-slot, same-account, same-message}
 use Rattle.export_group.specs.Held.{tableOf, GoodGroup}
 '''
 
 JOIN_USES = '''
 use Rattle.slots.specs.Table.{table}
-use Rattle.export_join.specs.Lent.{Joins}
+use Rattle.join_cores.specs.Lent.{Joins}
 use Rattle.export_join.specs.Held.{tableOf, GoodGroup}
 '''
 
@@ -871,30 +879,31 @@ SHOWN = 'lineFor (countsIn (g .numbers))'
 ROWS = 'owner kind form time address hash numbers'
 EXPORTS = [
     ('export_buffer', [BUFFER], [
-        on_buffer('set_up', 'set_up', [struct('b', BUFFER, 'all'), number('messages', 64), number('accounts', 64)], 8,
+        on_buffer('set_up', [struct('b', BUFFER, 'all'), number('messages', 64), number('accounts', 64)], 8,
                   'Gives (setUpBuffer Real messages accounts) (setUpC messages accounts) r after'),
         changes('add', 'addMessage Real (offer (%s))' % OFFERED, 'addC (%s)' % OFFERED,
                 [array('address', 8, 32), array('hash', 8, 32), number('time', 64), number('kind', 8), number('special', 8), number('form', 8)]),
         changes('remove', 'removeAccounts Real (rowsOf (length names / 32) names)', 'removeC names', [slice_('names', 8)]),
         changes('begin', 'beginBy Real', 'beginC'),
         changes('rollback', 'rollbackBy Real', 'rollbackC'),
-        on_buffer('commit', 'commit', [struct('b', BUFFER, 'numbers')], 8, 'Commits r (b .numbers) b·numbers',
+        on_buffer('commit', [struct('b', BUFFER, 'numbers')], 8, 'Commits r (b .numbers) b·numbers', core='cores.commit',
                   says='(committed (colsOf b) pre e)', req='GoodBuffer b', core_req='(pre .many)'),
-        reads('counts', 'numbers', '(r ≡ 0) × (out·last ≡ readAs (b .numbers))', 'e .0, e .1 ∙ ap listed (sym (counts-are (colsOf b) pre))',
+        reads('counts', 'numbers', '(r ≡ 0) × (out·last ≡ listed (countsIn (b .numbers)))', 'e .0, e .1 ∙ ap listed (counts-seen (colsOf b) pre)',
               [mut_array('out', 64, 6)]),
-        reads('has_min_ext_chain_time', 'numbers', 'r ≡ bit (marked (b .numbers) 7)', 'e ∙ ap bit (open-is (number (colsOf b) 7) (number (colsOf b) 6))'),
+        reads('has_min_ext_chain_time', 'numbers', 'r ≡ bit (marked (b .numbers) 7)', 'e ∙ ap bit (least-seen (colsOf b))'),
         reads('min_ext_chain_time', 'numbers', 'r ≡ lowestIn (b .numbers)', 'e', result=64),
-        reads('in_tx', 'numbers', 'r ≡ bit (marked (b .numbers) 8)', 'e ∙ ap bit (open-is (number (colsOf b) 8) (bufferOf (kept (colsOf b))))'),
-        reads('account_messages_count', 'owner accounts numbers',
-              'r ≡ ownedBy (b .owner) (getD (b .numbers) 2 0) (seatOf (b .accounts) (getD (b .numbers) 3 0) name)',
-              'e ∙ queued-told (live (colsOf b)) name (pre .now .placed)', [array('name', 8, 32)], 64, '(rows-in (colsOf b) pre)'),
-        reads('is_filled_by_count', 'numbers', 'r ≡ bit (leb limit (getD (b .numbers) 2 0))', 'e ∙ ap bit (sym (full-told (colsOf b) pre limit))',
-              [number('limit', 64)]),
-        reads('is_filled_by_slots', 'numbers', 'r ≡ 0', 'e ∙ slots-never'),
-        reads('account_at', 'accounts numbers', 'Told r out·last (foundAccount (b .accounts) (b .numbers) place)', 'account-seen (colsOf b) place e',
-              [mut_array('out', 8, 32), number('place', 16)], core_req='(pre .many, places-in (colsOf b) pre)'),
-        reads('message_at', ROWS, 'ToldMessage r facts·last address·last hash·last (foundMessage %s place position)' % ' '.join('(b .%s)' % f for f in ROWS.split()),
-              'message-seen (colsOf b) pre place position e',
+        reads('in_tx', 'numbers', 'r ≡ bit (marked (b .numbers) 8)', 'e ∙ ap bit (open-seen (colsOf b))'),
+        reads('account_messages_count', 'owner accounts numbers', 'r ≡ queuedIn (b .owner) (b .accounts) (b .numbers) name',
+              'e ∙ queued-seen (colsOf b) pre name', [array('name', 8, 32)], 64, '(accounts-in (colsOf b) pre, owners-in (colsOf b) pre)'),
+        reads('is_filled_by_count', 'numbers', 'r ≡ bit (filledIn (b .numbers) limit .count)',
+              'e ∙ ap (λ (f : Filled). bit (f .count)) (filled-seen (colsOf b) pre limit)', [number('limit', 64)]),
+        reads('is_filled_by_slots', 'numbers', 'r ≡ bit (filledIn (b .numbers) 0 .slots)',
+              'e ∙ ap (λ (f : Filled). bit (f .slots)) (filled-seen (colsOf b) pre 0)'),
+        reads('account_at', 'accounts numbers', 'Told r out·last (accountFound (b .accounts) (b .numbers) place)',
+              'subst (λ (s : SeenAccount). Told r out·last s) (account-seen (colsOf b) place) e',
+              [mut_array('out', 8, 32), number('place', 16)], core_req='(accounts-in (colsOf b) pre)'),
+        reads('message_at', ROWS, 'ToldMessage r facts·last address·last hash·last (messageFound %s place position)' % ' '.join('(b .%s)' % f for f in ROWS.split()),
+              'subst (λ (s : SeenMessage). ToldMessage r facts·last address·last hash·last s) (message-seen (colsOf b) pre place position) e',
               [mut_array('facts', 64, 4), mut_array('address', 8, 32), mut_array('hash', 8, 32), number('place', 16), number('position', 64)],
               core_req='(messages-in (colsOf b) pre)'),
     ]),
@@ -937,7 +946,7 @@ EXPORTS = [
                     [mut_array('out', 16, 1), number('count', 64), number('k', 64)], core_req='pre .buckets'),
     ]),
     ('export_join', [GROUP], [
-        dict(fn='lintelsong_group_join', core='cores.join', params=[struct('left', GROUP, 'all'), struct('right', GROUP, 'all')], result=8,
+        dict(fn='lintelsong_group_join', core='join', home='join_cores', params=[struct('left', GROUP, 'all'), struct('right', GROUP, 'all')], result=8,
              req='GoodGroup left × GoodGroup right', uses=JOIN_USES,
              did='Joins (tableOf left) (tableOf right) r (table %s) (table %s)' % tuple(' '.join('%s·%s' % (g, f.name) for f in GROUP.fields) for g in ('left', 'right'))),
     ]),
@@ -953,7 +962,8 @@ EXPORTS = [
 use Rattle.queues.specs.Cols.{cols}
 use Rattle.slots.specs.Table.{table}
 use Rattle.fill_rules.specs.Fills.{callOf, keys, left}
-use Rattle.fill_cores.specs.Lent.{filterBy, FillsBy}
+use Rattle.fill_answer.specs.Answers.{filterBy}
+use Rattle.fill_cores.specs.Lent.{FillsBy}
 use Rattle.export_fill.specs.Held.{colsOf, tableOf, GoodBuffer, GoodGroup, GoodSet}
 '''),
     ]),

@@ -1,16 +1,26 @@
--- Words with their numbers, one behind the other and LF behind them, are the lines. Assumes nothing.
-use mathlib.Core.List.{List, [], _∷_, _++_, append-assoc}
-use Prim.Native.Nat.{ℕ}
+-- Words with their numbers, one behind the other and LF behind them, are the lines; and a line that may be none. Assumes nothing.
+use mathlib.Core.Path.{_≡_, refl, sym}
+use mathlib.Core.List.{List, [], _∷_, _++_, append-assoc, append-nil}
+use Prim.Native.Nat.{ℕ, _≤_}
+use native.Mathlib.Omega.{arith}
+use lib.ListN.{take}
+use borrow.Author.Tests.{eq-eqb, ne-eqb}
 use Rattle.words.specs.Digits.{decimal}
 use Rattle.display.specs.Pieces.{Puts}
 use Rattle.display.proofs.Pieces.{puts-then}
-use Rattle.answers.specs.Answer.{sheetWord, addWord, codeWord, fillWord, collectedWord, opsWord, droppedWord, leftWord, extWord, accountsWord, minWord, newline, brokenLine, addLine, fillLine, leftLine}
+use Rattle.answers.specs.Answer.{sheetWord, addWord, codeWord, newline, brokenLine, addLine, refusal}
+
+pub puts-none : (at : ℕ) (out : List ℕ) → Puts [] 0 at out out at
+puts-none at out = record { ends = omega arith; near = omega arith; long = refl; text = sym (append-nil (take at out)) }
+
+pub puts-wider : {p : List ℕ} {m k at r : ℕ} {out after : List ℕ} → m ≤ k → Puts p m at out after r → Puts p k at out after r
+puts-wider h v = record { ends = v .ends; near = omega (arith, v .near); long = v .long; text = v .text }
 
 -- a word with its number was put behind `at` bytes
-abbrev Piece : (word : List ℕ) (most n at : ℕ) (line after : List ℕ) (r : ℕ) → Type 0
+abbrev pub Piece : (word : List ℕ) (most n at : ℕ) (line after : List ℕ) (r : ℕ) → Type 0
 Piece word most n at line after r = Puts (word ++ decimal n) most at line after r
 
-abbrev End : (at : ℕ) (line after : List ℕ) (r : ℕ) → Type 0
+abbrev pub End : (at : ℕ) (line after : List ℕ) (r : ℕ) → Type 0
 End at line after r = Puts newline 1 at line after r
 
 pub puts-broken : (n : ℕ) {at a r : ℕ} {line one after : List ℕ} → Piece sheetWord 31 n at line one a → End a one after r
@@ -23,16 +33,12 @@ pub puts-add : (n k : ℕ) {at a b r : ℕ} {line one two after : List ℕ} → 
 unfolding addLine
 puts-add n k p q z = simp append-assoc at (puts-then (puts-then p q) z)
 
-pub puts-fill : (n k collected ops dropped : ℕ) {at a b c d e r : ℕ} {line one two three four five after : List ℕ}
-    → Piece fillWord 25 n at line one a → Piece codeWord 26 k a one two b → Piece collectedWord 31 collected b two three c
-    → Piece opsWord 25 ops c three four d → Piece droppedWord 29 dropped d four five e → End e five after r
-    → Puts (fillLine n k collected ops dropped) 137 at line after r
-unfolding fillLine
-puts-fill n k collected ops dropped p q s t u z =
-    simp append-assoc at (puts-then (puts-then (puts-then (puts-then (puts-then p q) s) t) u) z)
+-- a refusal: code 0 is none
+pub puts-silent : (n k at : ℕ) (line : List ℕ) → k ≡ 0 → Puts (refusal n k) 51 at line line at
+unfolding refusal
+puts-silent n k at line e = rw (eq-eqb k 0 e) (puts-wider (omega arith) (puts-none at line))
 
-pub puts-left : (ints exts accounts least : ℕ) {at a b c d r : ℕ} {line one two three four after : List ℕ}
-    → Piece leftWord 29 ints at line one a → Piece extWord 25 exts a one two b → Piece accountsWord 30 accounts b two three c
-    → Piece minWord 25 least c three four d → End d four after r → Puts (leftLine ints exts accounts least) 110 at line after r
-unfolding leftLine
-puts-left ints exts accounts least p q s t z = simp append-assoc at (puts-then (puts-then (puts-then (puts-then p q) s) t) z)
+pub puts-spoken : (n k : ℕ) {at r : ℕ} {line after : List ℕ} → (k ≡ 0 → ⊥) → Puts (addLine n k) 51 at line after r
+    → Puts (refusal n k) 51 at line after r
+unfolding refusal
+puts-spoken n k d v = rw (ne-eqb k 0 d) v

@@ -1,6 +1,8 @@
 -- The lines that answer a sheet, byte by byte: each ends in LF. Assumes nothing.
+use mathlib.Core.Bool.{cond}
 use mathlib.Core.List.{List, [], _∷_, _++_}
 use Prim.Native.Nat.{ℕ}
+use lib.Dec.{eqb}
 use Rattle.words.specs.Digits.{decimal}
 
 -- ---- the words
@@ -61,6 +63,10 @@ brokenLine line = sheetWord ++ (decimal line ++ newline)
 -- "a refused add prints `add N code C`"
 unfoldable pub addLine : (number code : ℕ) → List ℕ
 addLine number code = addWord ++ (decimal number ++ (codeWord ++ (decimal code ++ newline)))
+
+-- "a refused add prints `add N code C` and goes on"; code 0 is no refusal
+unfoldable pub refusal : (number code : ℕ) → List ℕ
+refusal number code = cond (eqb code 0) [] (addLine number code)
 
 -- "Per fill: number, code, messages collected, operations, externals dropped"
 unfoldable pub fillLine : (number code collected ops dropped : ℕ) → List ℕ

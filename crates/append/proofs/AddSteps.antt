@@ -24,7 +24,9 @@ use Rattle.queues.specs.Good.{Good}
 use Rattle.queues.specs.Look.{seatOf}
 use Rattle.queues.specs.Append.{left, onlyDone, addCodeC, more, countedC, seatedC, appendedC, addC}
 use Rattle.queues.proofs.Counts.{ints-few, exts-few}
-use Rattle.append.specs.Rows.{Countable, Seatable, SeatedIn, enteredC, Writable, Written}
+use Rattle.arrivals.specs.Countable.{Countable}
+use Rattle.admission.specs.Seats.{Seatable, SeatedIn, enteredC}
+use Rattle.append.specs.Rows.{Writable, Written}
 use Rattle.append.proofs.Naming.{counted-length, counted-index, named}
 
 -- neither of the two last tests held

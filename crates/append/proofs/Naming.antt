@@ -18,7 +18,7 @@ use Rattle.index.specs.Names.{indexOfNames, indexedBy}
 use Rattle.index.proofs.Chains.{index-more}
 use Rattle.index.proofs.Cells.{own-index}
 use Rattle.queues.specs.Append.{more, countedC, seatedC}
-use Rattle.append.specs.Rows.{enteredC}
+use Rattle.admission.specs.Seats.{enteredC}
 
 -- a store before the index
 before : (l : List ℕ) (i v : ℕ) → ltb i 16 ≡ true → drop 16 (set l i v) ≡ drop 16 l

@@ -1,2 +1,2 @@
--- What the inner steps of an add need and leave.
+-- What writing the next row needs and leaves.
 pub mod Rows

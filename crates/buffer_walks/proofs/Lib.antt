@@ -1,2 +1,1 @@
--- What the proofs of the walk share.
-pub mod Looks
+-- No lemmas: each walk is a law of crate buffer_seen (Looks).

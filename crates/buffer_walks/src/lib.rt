@@ -1,4 +1,5 @@
-// The walk of a buffer in order: the account at a place, the message at a position of its queue; and how many messages an account has.
+// The walk of a buffer in order: the account at a place, the message at a position of its queue; and how many messages an account has. Each is
+// a read of crate `buffer_seen` on copies of the columns that it needs.
 ghost use mathlib.Core.Path.{_≡_};
 ghost use Rattle.rules.specs.Queues.{queued as queuedOf, accountAt, messageAt};
 ghost use Rattle.message.specs.Real.{Real};
@@ -18,10 +19,7 @@ pub fn account_messages_count(buffer: Buffer, name: [u8; 32]) -> usize
     let owner = buffer.owner;
     let accounts = buffer.accounts;
     let numbers = buffer.numbers;
-    let x = name;
-    let held = numbers[2] as usize;
-    let places = numbers[3] as usize;
-    queues::queued(&owner, held, &accounts, places, &x)
+    buffer_seen::account_messages_count(&owner, &accounts, &numbers, name)
 }
 
 // The account at a place of the order; none past the end.
@@ -31,17 +29,7 @@ pub fn account_at(buffer: Buffer, place: Place) -> SeenAccount
 {
     let accounts = buffer.accounts;
     let numbers = buffer.numbers;
-    let p = numbers::wide16(place.0);
-    if p < numbers[3] as usize {
-        return SeenAccount {
-            found: true,
-            account: columns::get_row(&accounts, p),
-        };
-    }
-    SeenAccount {
-        found: false,
-        account: [0u8; 32],
-    }
+    buffer_seen::account_at(&accounts, &numbers, place.0)
 }
 
 // The message at a position of the queue at a place of the order; none past either end.
@@ -56,16 +44,15 @@ pub fn message_at(buffer: Buffer, place: Place, position: usize) -> SeenMessage
     let address = buffer.address;
     let hash = buffer.hash;
     let numbers = buffer.numbers;
-    let n = numbers[2] as usize;
-    let row = queues::row_of(&owner, n, place.0, position);
-    if row < n {
-        return SeenMessage {
-            found: true,
-            message: records::message_at(&kind, &form, &time, &address, &hash, row),
-        };
-    }
-    SeenMessage {
-        found: false,
-        message: message::blank(),
-    }
+    buffer_seen::message_at(
+        &owner,
+        &kind,
+        &form,
+        &time,
+        &address,
+        &hash,
+        &numbers,
+        place.0,
+        position,
+    )
 }

@@ -7,6 +7,7 @@ use Prim.Native.Nat.{ℕ, zero, suc, _≤_, _<_}
 use native.Mathlib.Nat.{not-suc-le-zero}
 use native.Mathlib.Omega.{arith}
 use lib.ListN.{length, getD, replicate, length-replicate, getD-replicate}
+use Rattle.numbers.proofs.Bytes.{byBool}
 use Rattle.columns.specs.Lists.{tabI}
 use Rattle.columns.specs.Rows.{rowsOf}
 use Rattle.index.specs.Names.{indexOfNames, entered, noNames}
@@ -24,6 +25,8 @@ use Rattle.queues.specs.Indexed.{Indexed}
 use Rattle.queues.specs.Good.{Long, GoodHalf, Zeros, Blank, Good}
 use Rattle.queues.specs.Append.{Left, left}
 use Rattle.buffer_rules.specs.Ruled.{answerOf}
+use Rattle.buffer_sizes.specs.declared.Size.{Size}
+use Rattle.buffer_sizes.specs.Sizes.{sizeFor}
 use Rattle.buffers.specs.declared.buffer.Buffer.{Buffer}
 use Rattle.buffers.specs.Buffers.{colsOf, Gives, freshC, setUpC}
 
@@ -102,7 +105,7 @@ unfolding freshC orderOf tabI noMessages
 means m a = refl
 
 module _ (m a : ℕ) (b : Buffer) where
-  pub set-up-done : within 1 1024 m ≡ true → within 1 256 a ≡ true → colsOf b ≡ freshC m a → Gives (setUpBuffer Real m a) (setUpC m a) Done b
+  set-up-done : within 1 1024 m ≡ true → within 1 256 a ≡ true → colsOf b ≡ freshC m a → Gives (setUpBuffer Real m a) (setUpC m a) Done b
   unfolding setUpC setUpBuffer answer firstOf
   set-up-done p q e =
       let x = in-range 1 1024 m p in
@@ -113,10 +116,23 @@ module _ (m a : ℕ) (b : Buffer) where
         exactly = ap (left Done) e ∙ rw (p, q);
       }
 
-  pub set-up-refused : (within 1 1024 m && within 1 256 a) ≡ false → colsOf b ≡ freshC 1 1 → Gives (setUpBuffer Real m a) (setUpC m a) SetUp b
+  set-up-refused : (within 1 1024 m && within 1 256 a) ≡ false → colsOf b ≡ freshC 1 1 → Gives (setUpBuffer Real m a) (setUpC m a) SetUp b
   unfolding setUpC setUpBuffer answer firstOf
   set-up-refused f e = record {
     good = subst Good (sym e) (fresh-good 1 1 (omega arith) (omega arith) (omega arith) (omega arith));
     ruled = ap (λ (c : Cols). answerOf (left SetUp c)) e ∙ rw (f, means 1 1);
     exactly = ap (left SetUp) e ∙ rw f;
   }
+
+  sized : colsOf b ≡ freshC (sizeFor m a .messages) (sizeFor m a .accounts) → Gives (setUpBuffer Real m a) (setUpC m a) (sizeFor m a .code) b
+  sized f =
+      byBool (within 1 1024 m)
+      (λ p. byBool (within 1 256 a)
+      (λ q. let e : colsOf b ≡ freshC m a = f ∙ rw (p, q) in rw (p, q) (set-up-done p q e))
+      (λ q. let e : colsOf b ≡ freshC 1 1 = f ∙ rw (p, q) in rw (p, q) (set-up-refused (rw (p, q)) e)))
+      (λ p. let e : colsOf b ≡ freshC 1 1 = f ∙ rw p in rw p (set-up-refused (rw p) e))
+
+  -- a buffer of the size that a set-up gives
+  pub set-up : {z : Size} → z ≡ sizeFor m a → colsOf b ≡ freshC (z .messages) (z .accounts) → Gives (setUpBuffer Real m a) (setUpC m a) (z .code) b
+  set-up e f =
+      subst (λ (s : Size). colsOf b ≡ freshC (s .messages) (s .accounts) → Gives (setUpBuffer Real m a) (setUpC m a) (s .code) b) (sym e) sized f

@@ -1,3 +1,2 @@
--- What the proofs of the public calls share: Looks (what is read off), Fresh (set-up).
-pub mod Looks
+-- What the proofs of the public calls share: Fresh (set-up).
 pub mod Fresh

@@ -1,11 +1,9 @@
--- What the public contracts of a buffer cite: its columns, when it is well formed, what a call gives, and what is read off. Assumes nothing.
+-- What the public contracts of a buffer cite: its columns, when it is well formed, and what a call gives. Assumes nothing.
 use mathlib.Core.Path.{_≡_}
 use mathlib.Core.Bool.{cond, _&&_}
 use mathlib.Core.List.{_∷_}
 use Prim.Native.Nat.{ℕ}
-use lib.ListN.{length, replicate}
-use Rattle.rules.specs.World as world
-use Rattle.rules.specs.Queues.{allMsgs, heldInts, heldExts, heldAccounts, fullByCount, fullBySlots}
+use lib.ListN.{replicate}
 use Rattle.rules.specs.Calls as calls
 use Rattle.rules.specs.Calls.{Store}
 use Rattle.message.specs.declared.Code.{Code}
@@ -17,8 +15,6 @@ use Rattle.queues.specs.Good.{Good}
 use Rattle.queues.specs.Append.{Left, left}
 use Rattle.buffer_rules.specs.Ruled.{answerOf}
 use Rattle.buffers.specs.declared.buffer.Buffer.{Buffer}
-use Rattle.buffers.specs.declared.buffer.Counts.{Counts}
-use Rattle.buffers.specs.declared.buffer.Filled.{Filled}
 
 abbrev pub colsOf : Buffer → Cols
 colsOf b = cols (b .owner) (b .kind) (b .form) (b .time) (b .address) (b .hash) (b .accounts) (b .numbers)
@@ -44,19 +40,3 @@ freshC m a =
 -- "M messages (1 to 1,024) and A accounts (1 to 256)"; "a refused set-up gives a fresh one of size 1"
 unfoldable pub setUpC : (m a : ℕ) → Left
 setUpC m a = cond (calls.within 1 1024 m && calls.within 1 256 a) (left Done (freshC m a)) (left SetUp (freshC 1 1))
-
--- ---- what is read off
-
-abbrev pub countsOf : Store Real → Counts
-countsOf s = record {
-  capacity = s .M;
-  places = s .A;
-  messages = length (allMsgs Real (s .now .order));
-  accounts = heldAccounts Real (s .now);
-  ints = heldInts Real (s .now);
-  exts = heldExts Real (s .now);
-}
-
--- "Full by count: messages held ≥ max_count. By slots the answer is always CanNotFill."
-abbrev pub filledBy : ℕ → world.Buffer Real → Filled
-filledBy limit b = record { count = fullByCount Real limit b; slots = fullBySlots }

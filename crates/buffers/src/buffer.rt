@@ -1,10 +1,14 @@
-// The buffer: set up, and read.
+// The buffer: set up, and read. What is read off it is read by crate `buffer_reads`, on a copy of its numbers.
 ghost use mathlib.Core.Path.{_≡_};
 ghost use Rattle.rules.specs.World.{leastRead};
-ghost use Rattle.rules.specs.Calls.{isOpen, within as inRange, setUpBuffer};
+ghost use Rattle.rules.specs.Calls.{isOpen, setUpBuffer};
 ghost use Rattle.message.specs.Real.{Real};
 ghost use Rattle.queues.specs.Meant.{meant};
-ghost use Rattle.buffers.specs.Buffers.{colsOf, GoodBuffer, Gives, freshC, setUpC, countsOf, filledBy};
+ghost use Rattle.buffer_reads.specs.Shown.{countsOf, filledBy};
+ghost use Rattle.buffers.specs.Buffers.{colsOf, GoodBuffer, Gives, freshC, setUpC};
+use buffer_reads::Counts;
+use buffer_reads::Filled;
+use buffer_reads::held;
 use message::Code;
 
 // A buffer for at most 1,024 messages of at most 256 accounts. Rows 1,024 to 2,047 and accounts 256 to 511 are the backup room.
@@ -23,22 +27,6 @@ pub struct Buffer {
 pub struct Answer {
     pub code: Code,
     pub buffer: Buffer,
-}
-
-// The room of a buffer, M messages and A accounts (`capacity`, `places`), and what it holds.
-pub struct Counts {
-    pub capacity: u64,
-    pub places: u64,
-    pub messages: u64,
-    pub accounts: u64,
-    pub ints: u64,
-    pub exts: u64,
-}
-
-// Whether a buffer is filled, by count and by slots.
-pub struct Filled {
-    pub count: bool,
-    pub slots: bool,
 }
 
 // A buffer that holds nothing, with room for m messages of a accounts.
@@ -60,13 +48,6 @@ fn fresh(m: u64, a: u64) -> Buffer
     }
 }
 
-// Whether n lies from 1 to `high`.
-fn within(n: u64, high: u64) -> bool
-    ensures { λ r. ⌜ r ≡ inRange 1 high n ⌝ }
-{
-    1 <= n && n <= high
-}
-
 impl Buffer {
     // ---- set-up
 
@@ -74,17 +55,11 @@ impl Buffer {
     pub fn set_up(m: u64, a: u64) -> Answer
         ensures { λ r. ⌜ Gives (setUpBuffer Real m a) (setUpC m a) (r .code) (r .buffer) ⌝ }
     {
-        if within(m, 1024) {
-            if within(a, 256) {
-                return Answer {
-                    code: Code::Done,
-                    buffer: fresh(m, a),
-                };
-            }
-        }
+        let size = buffer_sizes::size_for(m, a);
+        let code = size.code;
         Answer {
-            code: Code::SetUp,
-            buffer: fresh(1, 1),
+            code,
+            buffer: fresh(size.messages, size.accounts),
         }
     }
 
@@ -96,14 +71,7 @@ impl Buffer {
         ensures { λ r. ⌜ r ≡ countsOf (meant (colsOf self)) ⌝ }
     {
         let numbers = self.numbers;
-        Counts {
-            capacity: numbers[0],
-            places: numbers[1],
-            messages: numbers[2],
-            accounts: numbers[3],
-            ints: numbers[4],
-            exts: numbers[5],
-        }
+        held::counts(&numbers)
     }
 
     // Whether there is a minimum chain time.
@@ -112,8 +80,7 @@ impl Buffer {
         ensures { λ r. ⌜ r ≡ isOpen (meant (colsOf self) .now .least) ⌝ }
     {
         let numbers = self.numbers;
-        let mark = numbers[7];
-        mark != 0
+        held::has_min_ext_chain_time(&numbers)
     }
 
     // The minimum chain time; absent reads as 2^64 - 1.
@@ -122,11 +89,7 @@ impl Buffer {
         ensures { λ r. ⌜ r ≡ leastRead (meant (colsOf self) .now .least) ⌝ }
     {
         let numbers = self.numbers;
-        if numbers[7] != 0 {
-            numbers[6]
-        } else {
-            u64::MAX
-        }
+        held::min_ext_chain_time(&numbers)
     }
 
     // Whether a transaction is open.
@@ -135,8 +98,7 @@ impl Buffer {
         ensures { λ r. ⌜ r ≡ isOpen (meant (colsOf self) .kept) ⌝ }
     {
         let numbers = self.numbers;
-        let open = numbers[8];
-        open != 0
+        held::in_tx(&numbers)
     }
 
     // Whether the buffer is filled: by count, when it holds at least `limit` messages; by slots, never.
@@ -145,9 +107,6 @@ impl Buffer {
         ensures { λ r. ⌜ r ≡ filledBy limit (meant (colsOf self) .now) ⌝ }
     {
         let numbers = self.numbers;
-        Filled {
-            count: limit <= numbers[2],
-            slots: false,
-        }
+        held::check_is_filled(&numbers, limit)
     }
 }

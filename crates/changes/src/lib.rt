@@ -37,18 +37,19 @@ pub fn add(buffer: Buffer, m: Message) -> Answer
         &mut accounts,
         &mut numbers,
     );
+    let added = Buffer {
+        owner,
+        kind,
+        form,
+        time,
+        address,
+        hash,
+        accounts,
+        numbers,
+    };
     Answer {
         code,
-        buffer: Buffer {
-            owner,
-            kind,
-            form,
-            time,
-            address,
-            hash,
-            accounts,
-            numbers,
-        },
+        buffer: added,
     }
 }
 
@@ -77,18 +78,19 @@ pub fn remove(buffer: Buffer, names: &[u8]) -> Answer
         &mut accounts,
         &mut numbers,
     );
+    let removed = Buffer {
+        owner,
+        kind,
+        form,
+        time,
+        address,
+        hash,
+        accounts,
+        numbers,
+    };
     Answer {
         code,
-        buffer: Buffer {
-            owner,
-            kind,
-            form,
-            time,
-            address,
-            hash,
-            accounts,
-            numbers,
-        },
+        buffer: removed,
     }
 }
 

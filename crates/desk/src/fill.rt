@@ -4,7 +4,7 @@ ghost use Rattle.desk.specs.Desks.{GoodShelf, GoodTray, KeyRoom};
 use crate::shelf;
 use crate::shelf::Shelf;
 use crate::tray::Tray;
-use filling::Asked;
+use fill_answer::Asked;
 use lintelsong::Buffer;
 use lintelsong::Group;
 use lintelsong::Skipped;

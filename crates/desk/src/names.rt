@@ -10,7 +10,7 @@ fn write_names(numbers: &[u64], n: usize, names: &mut [u8])
     let mut i: usize = 0;
     while i < n {
         let name = words::name::name_of(numbers[i]);
-        columns::put_row(names, i, &name);
+        rows::put_row(names, i, &name);
         i += 1;
     }
 }

@@ -45,7 +45,7 @@ fn row(t: Tray, r: SkipRow) -> Tray
     }
     let name = words::name::name_of(r.account);
     let mut names = t.names;
-    columns::put_row(&mut names, i, &name);
+    rows::put_row(&mut names, i, &name);
     after.names = names;
     after.verdicts[i] = r.verdict;
     after.costs[i] = r.cost;
@@ -73,8 +73,8 @@ fn keys(t: Tray, n: usize, lts: &mut [u64], hashes: &mut [u8]) -> Tray
     if 2048 < n {
         return after;
     }
-    columns::clear_words(lts, 0, n);
-    columns::clear_bytes(hashes, 0, 32 * n);
+    cells::clear_words(lts, 0, n);
+    cells::clear_bytes(hashes, 0, 32 * n);
     after.keys = n;
     after
 }

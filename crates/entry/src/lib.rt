@@ -18,8 +18,8 @@ pub fn number_members(order: &[u8], places: usize, group: &[u8], n: usize, membe
 {
     let mut g: usize = 0;
     while g < n {
-        let x = columns::get_row(group, g);
-        let seat = columns::find_row(order, places, &x);
+        let x = rows::get_row(group, g);
+        let seat = rows::find_row(order, places, &x);
         let party = if seat < places { seat } else { 256 + g };
         member[g] = party as u16;
         g += 1;

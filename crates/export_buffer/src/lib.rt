@@ -1,6 +1,6 @@
 // The buffer for C and Rust: a closed struct behind a reference, and every call on it. Each call lends the columns that it needs to one
-// function of `cores`, and copies nothing. `set_up` takes any memory and makes it well formed; every other call asks for a well formed
-// buffer and leaves one. Codes are the numbers of the table of codes, and a test answers 1 or 0.
+// function, of crate `buffer_cores` or, where it changes the buffer, of `cores`, and copies nothing. `set_up` takes any memory and makes it well
+// formed; every other call asks for a well formed buffer and leaves one. Codes are the numbers of the table of codes, and a test answers 1 or 0.
 ghost use mathlib.Core.Path.{_≡_};
 ghost use Prim.Native.Nat.{_/_};
 ghost use lib.ListN.{length};
@@ -14,9 +14,10 @@ ghost use Rattle.queues.specs.Meant.{meant};
 ghost use Rattle.queues.specs.Append.{addC};
 ghost use Rattle.queues.specs.Compact.{removeC};
 ghost use Rattle.queues.specs.Transact.{beginC, commitC, rollbackC};
-ghost use Rattle.buffers.specs.Buffers.{setUpC, countsOf};
-ghost use Rattle.export_parts.specs.Parts.{bit, Told, ToldMessage};
-ghost use Rattle.export_buffer.specs.Lent.{Gives, messageOf, listed};
+ghost use Rattle.buffer_reads.specs.Shown.{countsOf};
+ghost use Rattle.buffers.specs.Buffers.{setUpC};
+ghost use Rattle.export_parts.specs.Parts.{bit, messageOf, Told, ToldMessage};
+ghost use Rattle.buffer_cores.specs.Told.{Gives, listed};
 ghost use Rattle.export_buffer.specs.Held.{colsOf, GoodBuffer};
 
 mod cores;
@@ -41,7 +42,7 @@ pub struct Buffer {
 pub extern "C" fn lintelsong_buffer_set_up(b: &mut Buffer, messages: u64, accounts: u64) -> u8
     ensures { λ r. ⌜ Gives (setUpBuffer Real messages accounts) (setUpC messages accounts) r (colsOf (now (b .exit))) ⌝ }
 {
-    cores::set_up(
+    buffer_cores::set_up(
         &mut b.owner,
         &mut b.kind,
         &mut b.form,
@@ -163,7 +164,7 @@ pub extern "C" fn lintelsong_buffer_counts(b: &mut Buffer, out: &mut [u64; 6]) -
     requires { ⌜ GoodBuffer (now b) ⌝ }
     ensures { λ r. ⌜ (r ≡ 0) × (now (out .exit) ≡ listed (countsOf (meant (colsOf (now (b .entry)))))) × (now (b .exit) ≡ now (b .entry)) ⌝ }
 {
-    cores::counts(&b.numbers, out)
+    buffer_cores::counts(&b.numbers, out)
 }
 
 // Whether there is a minimum chain time.
@@ -172,7 +173,7 @@ pub extern "C" fn lintelsong_buffer_has_min_ext_chain_time(b: &mut Buffer) -> u8
     requires { ⌜ GoodBuffer (now b) ⌝ }
     ensures { λ r. ⌜ (r ≡ bit (isOpen (meant (colsOf (now (b .entry))) .now .least))) × (now (b .exit) ≡ now (b .entry)) ⌝ }
 {
-    cores::has_min_ext_chain_time(&b.numbers)
+    buffer_cores::has_min_ext_chain_time(&b.numbers)
 }
 
 // The minimum chain time; absent reads as 2^64 - 1.
@@ -181,7 +182,7 @@ pub extern "C" fn lintelsong_buffer_min_ext_chain_time(b: &mut Buffer) -> u64
     requires { ⌜ GoodBuffer (now b) ⌝ }
     ensures { λ r. ⌜ (r ≡ leastRead (meant (colsOf (now (b .entry))) .now .least)) × (now (b .exit) ≡ now (b .entry)) ⌝ }
 {
-    cores::min_ext_chain_time(&b.numbers)
+    buffer_cores::min_ext_chain_time(&b.numbers)
 }
 
 // Whether a transaction is open.
@@ -190,7 +191,7 @@ pub extern "C" fn lintelsong_buffer_in_tx(b: &mut Buffer) -> u8
     requires { ⌜ GoodBuffer (now b) ⌝ }
     ensures { λ r. ⌜ (r ≡ bit (isOpen (meant (colsOf (now (b .entry))) .kept))) × (now (b .exit) ≡ now (b .entry)) ⌝ }
 {
-    cores::in_tx(&b.numbers)
+    buffer_cores::in_tx(&b.numbers)
 }
 
 // How many messages the queue of an account holds; 0 if it has none.
@@ -199,7 +200,7 @@ pub extern "C" fn lintelsong_buffer_account_messages_count(b: &mut Buffer, name:
     requires { ⌜ GoodBuffer (now b) ⌝ }
     ensures { λ r. ⌜ (r ≡ queuedOf Real (now (name .entry)) (meant (colsOf (now (b .entry))) .now)) × (now (b .exit) ≡ now (b .entry)) ⌝ }
 {
-    cores::account_messages_count(&b.owner, &b.accounts, &b.numbers, name)
+    buffer_cores::account_messages_count(&b.owner, &b.accounts, &b.numbers, name)
 }
 
 // Whether the buffer holds at least `limit` messages.
@@ -208,7 +209,7 @@ pub extern "C" fn lintelsong_buffer_is_filled_by_count(b: &mut Buffer, limit: u6
     requires { ⌜ GoodBuffer (now b) ⌝ }
     ensures { λ r. ⌜ (r ≡ bit (fullByCount Real limit (meant (colsOf (now (b .entry))) .now))) × (now (b .exit) ≡ now (b .entry)) ⌝ }
 {
-    cores::is_filled_by_count(&b.numbers, limit)
+    buffer_cores::is_filled_by_count(&b.numbers, limit)
 }
 
 // Whether the buffer is filled by slots: never.
@@ -217,7 +218,7 @@ pub extern "C" fn lintelsong_buffer_is_filled_by_slots(b: &mut Buffer) -> u8
     requires { ⌜ GoodBuffer (now b) ⌝ }
     ensures { λ r. ⌜ (r ≡ bit fullBySlots) × (now (b .exit) ≡ now (b .entry)) ⌝ }
 {
-    cores::is_filled_by_slots(&b.numbers)
+    buffer_cores::is_filled_by_slots(&b.numbers)
 }
 
 // ---- the walk in order
@@ -228,7 +229,7 @@ pub extern "C" fn lintelsong_buffer_account_at(b: &mut Buffer, out: &mut [u8; 32
     requires { ⌜ GoodBuffer (now b) ⌝ }
     ensures { λ r. ⌜ Told r (now (out .exit)) (seenAccount (accountAt Real place (meant (colsOf (now (b .entry))) .now))) × (now (b .exit) ≡ now (b .entry)) ⌝ }
 {
-    cores::account_at(&b.accounts, &b.numbers, out, place)
+    buffer_cores::account_at(&b.accounts, &b.numbers, out, place)
 }
 
 // Writes the message at a position of the queue at a place of the order, and answers 1; past either end it writes a fresh message and answers
@@ -245,7 +246,7 @@ pub extern "C" fn lintelsong_buffer_message_at(
     requires { ⌜ GoodBuffer (now b) ⌝ }
     ensures { λ r. ⌜ ToldMessage r (now (facts .exit)) (now (address .exit)) (now (hash .exit)) (seenMessage (messageAt Real place position (meant (colsOf (now (b .entry))) .now))) × (now (b .exit) ≡ now (b .entry)) ⌝ }
 {
-    cores::message_at(
+    buffer_cores::message_at(
         &b.owner,
         &b.kind,
         &b.form,

@@ -1,7 +1,8 @@
 // The fill for C and Rust: it lends every column of the buffer, the group and the skipped set to one function of `fill_cores`, and copies nothing.
 // The three have the layout of those of the other export crates, whose calls set them up.
 ghost use Rattle.fill_rules.specs.Fills.{callOf, keys, left};
-ghost use Rattle.fill_cores.specs.Lent.{filterBy, FillsBy};
+ghost use Rattle.fill_answer.specs.Answers.{filterBy};
+ghost use Rattle.fill_cores.specs.Lent.{FillsBy};
 ghost use Rattle.export_fill.specs.Held.{colsOf, tableOf, GoodBuffer, GoodGroup, GoodSet};
 
 // A buffer for at most 1,024 messages of at most 256 accounts.

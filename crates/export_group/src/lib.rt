@@ -12,7 +12,8 @@ ghost use Rattle.message.specs.Seen.{seenAccount, seenMessage};
 ghost use Rattle.slots.specs.Meant.{meant};
 ghost use Rattle.group_reads.specs.Shown.{countsOf, seenId, seenSlot, accountsAt, Displays};
 ghost use Rattle.export_parts.specs.Parts.{bit, Told, ToldMessage};
-ghost use Rattle.group_cores.specs.Told.{SetsUp, listed, ToldId, ToldSlot};
+ghost use Rattle.group_parts.specs.Told.{listed, ToldId, ToldSlot};
+ghost use Rattle.group_cores.specs.Told.{SetsUp};
 ghost use Rattle.export_group.specs.Held.{tableOf, GoodGroup};
 
 // A group of at most 64 slots, 1,024 accounts and 1,024 messages.

@@ -1,3 +1,2 @@
--- What the contracts of the exports cite: Lent (what is said of lent columns), Held (a group's columns, and when it is well formed).
-pub mod Lent
+-- What the contract of the export cites: a group's columns, and when it is well formed.
 pub mod Held

@@ -1,9 +1,7 @@
-// The join for C and Rust: it lends every column of both groups to the join of crate `merging`, and copies nothing. A group has the layout of
+// The join for C and Rust: it lends every column of both groups to one function of `join_cores`, and copies nothing. A group has the layout of
 // those of the other export crates, whose calls set it up.
-ghost use Rattle.export_join.specs.Lent.{Joins};
+ghost use Rattle.join_cores.specs.Lent.{Joins};
 ghost use Rattle.export_join.specs.Held.{tableOf, GoodGroup};
-
-mod cores;
 
 // A group of at most 64 slots, 1,024 accounts and 1,024 messages.
 #[repr(C)]
@@ -29,7 +27,7 @@ pub extern "C" fn lintelsong_group_join(left: &mut Group, right: &mut Group) -> 
     requires { ⌜ GoodGroup (now left) × GoodGroup (now right) ⌝ }
     ensures { λ r. ⌜ Joins (tableOf (now (left .entry))) (tableOf (now (right .entry))) r (tableOf (now (left .exit))) (tableOf (now (right .exit))) ⌝ }
 {
-    cores::join(
+    join_cores::join(
         &mut left.number,
         &mut left.ints,
         &mut left.exts,

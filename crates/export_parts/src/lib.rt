@@ -1,7 +1,8 @@
-// What the exports share: an array whose length is said, a test as a number, and an account and a message written out.
+// What the exports share: an array whose length is said, a test as a number, a message made of its parts, and an account and a message written
+// out.
 ghost use mathlib.Core.Path.{_≡_};
 ghost use lib.ListN.{length};
-ghost use Rattle.export_parts.specs.Parts.{bit, Told, Tells, ToldMessage};
+ghost use Rattle.export_parts.specs.Parts.{bit, Made, Told, Tells, ToldMessage};
 use message::Message;
 use message::SeenAccount;
 use message::SeenMessage;
@@ -25,6 +26,32 @@ fn wide(x: u8) -> u64
     ensures { λ r. ⌜ r ≡ x ⌝ }
 {
     x as u64
+}
+
+// A message of these parts. A mark other than 0 is set; a form other than 0 is not the standard one.
+pub fn message_of(
+    to: &[u8; 32],
+    hashed: &[u8; 32],
+    sent: u64,
+    sort: u8,
+    special: u8,
+    shape: u8,
+) -> Message
+    ensures { λ r. ⌜ Made r (now (to .entry)) (now (hashed .entry)) sent sort special shape ⌝ }
+{
+    let there = *to;
+    let address = whole(there);
+    let hashes = *hashed;
+    let hash = whole(hashes);
+    let form = records::form_of(shape);
+    Message {
+        kind: sort,
+        special: special != 0,
+        form,
+        address,
+        time: sent,
+        hash,
+    }
 }
 
 // Writes the parts of a message: its kind, its mark, its form and its time; its address; its hash.

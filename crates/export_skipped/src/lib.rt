@@ -1,6 +1,6 @@
 // The skipped set for C and Rust: a closed struct behind a reference, and every call on it. Each call lends the fields to one function of
-// `cores`. `set_up` takes any memory and makes it well formed; every other call asks for a well formed set and leaves one. A test answers 1
-// or 0.
+// crate `skipped_cores`. `set_up` takes any memory and makes it well formed; every other call asks for a well formed set and leaves one. A test
+// answers 1 or 0.
 ghost use mathlib.Core.Path.{_≡_};
 ghost use mathlib.Core.List.{[]};
 ghost use lib.ListN.{length};
@@ -10,8 +10,6 @@ ghost use Rattle.message.specs.Real.{Real};
 ghost use Rattle.message.specs.Seen.{seenAccount};
 ghost use Rattle.export_parts.specs.Parts.{bit, Told};
 ghost use Rattle.export_skipped.specs.Held.{GoodSet, accountsIn};
-
-mod cores;
 
 // A set of at most 512 accounts that fills pass over.
 #[repr(C)]
@@ -25,7 +23,7 @@ pub struct Skipped {
 pub extern "C" fn lintelsong_skipped_set_up(s: &mut Skipped) -> u8
     ensures { λ r. ⌜ (r ≡ 0) × GoodSet (now (s .exit)) × (accountsIn (now (s .exit)) ≡ []) ⌝ }
 {
-    cores::set_up(&mut s.accounts, &mut s.held)
+    skipped_cores::set_up(&mut s.accounts, &mut s.held)
 }
 
 // How many accounts it holds.
@@ -34,7 +32,7 @@ pub extern "C" fn lintelsong_skipped_len(s: &mut Skipped) -> u64
     requires { ⌜ GoodSet (now s) ⌝ }
     ensures { λ r. ⌜ (r ≡ length (accountsIn (now (s .entry)))) × (now (s .exit) ≡ now (s .entry)) ⌝ }
 {
-    cores::len(&s.held)
+    skipped_cores::len(&s.held)
 }
 
 // Whether it holds an account.
@@ -43,7 +41,7 @@ pub extern "C" fn lintelsong_skipped_contains(s: &mut Skipped, name: &[u8; 32]) 
     requires { ⌜ GoodSet (now s) ⌝ }
     ensures { λ r. ⌜ (r ≡ bit (isIn Real (now (name .entry)) (accountsIn (now (s .entry))))) × (now (s .exit) ≡ now (s .entry)) ⌝ }
 {
-    cores::contains(&s.accounts, &s.held, name)
+    skipped_cores::contains(&s.accounts, &s.held, name)
 }
 
 // Writes the account at a position, in the order in which they joined, and answers 1; past the end it writes zeros and answers 0.
@@ -56,5 +54,5 @@ pub extern "C" fn lintelsong_skipped_account_at(
     requires { ⌜ GoodSet (now s) ⌝ }
     ensures { λ r. ⌜ Told r (now (out .exit)) (seenAccount (nth position (accountsIn (now (s .entry))))) × (now (s .exit) ≡ now (s .entry)) ⌝ }
 {
-    cores::account_at(&s.accounts, &s.held, out, position)
+    skipped_cores::account_at(&s.accounts, &s.held, out, position)
 }

@@ -1,19 +1,11 @@
 -- A fill with its answer in numbers: the code by its number; how many messages it collected, its operations, and how many it dropped.
 -- Assumes nothing.
 use mathlib.Core.Path.{_≡_}
-use mathlib.Core.Bool.{cond}
 use mathlib.Core.List.{List, [], _∷_}
 use Prim.Native.Nat.{ℕ}
-use lib.Dec.{eqb}
-use Rattle.message.specs.declared.Filter.{Filter}
-use Rattle.message.specs.declared.Filter.the-variants.{Off, Below}
 use Rattle.message.specs.Answers.{number as numberOf}
 use Rattle.entry_rules.specs.Calling.{Call}
 use Rattle.fill_rules.specs.Fills.{Keys, Says, Left, Fills}
-
--- a filter by two numbers: off if the first is 0, else below the second
-abbrev pub filterBy : (filtered below : ℕ) → Filter
-filterBy filtered below = cond (eqb filtered 0) Off (Below below)
 
 -- what is answered is said by these numbers, and the fill is that of the rules
 pub record FillsBy (v : Call) (k : Keys) (r : ℕ) (out : List ℕ) (z : Left) : Type 0 where

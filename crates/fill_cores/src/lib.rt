@@ -6,19 +6,8 @@ ghost use Rattle.slots.specs.Good.{Good as GroupGood};
 ghost use Rattle.skipped.specs.Sets.{GoodRows};
 ghost use Rattle.slots.specs.Table.{table};
 ghost use Rattle.fill_rules.specs.Fills.{callOf, keys, left};
-ghost use Rattle.fill_cores.specs.Lent.{filterBy, FillsBy};
-use message::Filter;
-
-// A filter by two numbers: off if the first is 0, else below the second.
-fn filter_by(filtered: u8, below: u64) -> Filter
-    ensures { λ r. ⌜ r ≡ filterBy filtered below ⌝ }
-{
-    if filtered == 0 {
-        Filter::Off
-    } else {
-        Filter::Below(below)
-    }
-}
+ghost use Rattle.fill_answer.specs.Answers.{filterBy};
+ghost use Rattle.fill_cores.specs.Lent.{FillsBy};
 
 pub fn fill(
     owner: &mut [u16; 2048],
@@ -59,7 +48,7 @@ pub fn fill(
     requires { ⌜ Good (cols (now owner) (now kind) (now form) (now time) (now address) (now hash) (now accounts) (now numbers)) × GroupGood (table (now number2) (now ints2) (now exts2) (now accounts2) (now home2) (now owner2) (now kind2) (now form2) (now time2) (now address2) (now hash2) (now buckets2) (now numbers2)) × GoodRows (now held) (now set) ⌝ }
     ensures { λ r. ⌜ FillsBy (callOf (cols (now (owner .entry)) (now (kind .entry)) (now (form .entry)) (now (time .entry)) (now (address .entry)) (now (hash .entry)) (now (accounts .entry)) (now (numbers .entry))) (table (now (number2 .entry)) (now (ints2 .entry)) (now (exts2 .entry)) (now (accounts2 .entry)) (now (home2 .entry)) (now (owner2 .entry)) (now (kind2 .entry)) (now (form2 .entry)) (now (time2 .entry)) (now (address2 .entry)) (now (hash2 .entry)) (now (buckets2 .entry)) (now (numbers2 .entry))) (now (set .entry)) (now (held .entry)) slots height (filterBy filtered below) (now (names .entry)) (now (verdicts .entry)) (now (costs .entry)) cost) (keys (now (lts .entry)) (now (hashes .entry))) r (now (out .exit)) (left (cols (now (owner .exit)) (now (kind .exit)) (now (form .exit)) (now (time .exit)) (now (address .exit)) (now (hash .exit)) (now (accounts .exit)) (now (numbers .exit))) (table (now (number2 .exit)) (now (ints2 .exit)) (now (exts2 .exit)) (now (accounts2 .exit)) (now (home2 .exit)) (now (owner2 .exit)) (now (kind2 .exit)) (now (form2 .exit)) (now (time2 .exit)) (now (address2 .exit)) (now (hash2 .exit)) (now (buckets2 .exit)) (now (numbers2 .exit))) (now (set .exit)) (now (held .exit)) (keys (now (lts .exit)) (now (hashes .exit)))) ⌝ }
 {
-    let filter = filter_by(filtered, below);
+    let filter = fill_answer::filter_by(filtered, below);
     let a = fills::fill(
         owner,
         kind,
@@ -95,6 +84,6 @@ pub fn fill(
         hashes,
     );
     let code = a.code;
-    *out = [a.collected as u64, a.operations, a.dropped as u64];
+    *out = fill_answer::counts(a);
     message::number_of(code)
 }

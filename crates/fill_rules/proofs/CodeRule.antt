@@ -33,8 +33,10 @@ use Rattle.meaning.specs.Passes.{positionFrom}
 use Rattle.entry.specs.Entry.{Spoken}
 use Rattle.entry_rules.specs.Calling.{Call, skipIn, args, setOf}
 use Rattle.entry_rules.proofs.Slots.{marked-last}
-use Rattle.refusals.specs.Refusals.{skipsIn, tooLarge, manySkips, heldOf, someAbove, usedUp, codeC}
-use Rattle.refusals.proofs.Looks.{not-large}
+use Rattle.limits.specs.Limits.{skipsIn, tooLarge, manySkips, usedUp}
+use Rattle.limits.proofs.Counting.{not-large}
+use Rattle.over_height.specs.Heights.{heldOf, someAbove}
+use Rattle.refusals.specs.Refusals.{codeC}
 use Rattle.fill_rules.specs.Passing.{opensOf}
 use Rattle.fill_rules.specs.Fills.{Keys, rowsOfKeys, codeOf, Accepted}
 

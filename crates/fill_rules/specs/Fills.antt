@@ -23,7 +23,8 @@ use Rattle.skipped.specs.Sets.{GoodRows}
 use Rattle.entry.specs.Entry.{sayings}
 use Rattle.entry_rules.specs.Calling.{Call, args, setOf}
 use Rattle.settle_rules.specs.Facts.{keysOf}
-use Rattle.refusals.specs.Refusals.{rowsIn, keyRows, skipsIn, codeC}
+use Rattle.limits.specs.Limits.{rowsIn, keyRows, skipsIn}
+use Rattle.refusals.specs.Refusals.{codeC}
 use Rattle.settle_rules.specs.Settling.{Settled}
 use Rattle.fill_rules.specs.Passing.{opensOf, ranOf}
 

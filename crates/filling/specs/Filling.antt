@@ -9,7 +9,7 @@ use Rattle.groups.specs.Groups.{tableOf}
 use Rattle.skipped.specs.declared.Skipped.{Skipped}
 use Rattle.entry_rules.specs.Calling.{Call}
 use Rattle.fill_rules.specs.Fills.{callOf, Keys, Says, says, Left, left}
-use Rattle.filling.specs.declared.Asked.{Asked}
+use Rattle.fill_answer.specs.declared.Asked.{Asked}
 use Rattle.filling.specs.declared.Filled.{Filled}
 
 abbrev pub callOn : Buffer → Group → Skipped → Asked → (names verdicts costs : List ℕ) → Call

@@ -6,18 +6,10 @@ ghost use Rattle.skipped.specs.Sets.{GoodSet};
 ghost use Rattle.fill_rules.specs.Fills.{keys, Fills};
 ghost use Rattle.filling.specs.Filling.{callOn, saysIn, leftIn};
 use buffers::buffer::Buffer;
+use fill_answer::Asked;
 use groups::group::Group;
 use message::Code;
-use message::Filter;
 use skipped::Skipped;
-
-// What is asked of a fill: how many slots, how high, the filter, and the cost of an account without a skip row.
-pub struct Asked {
-    pub slots: u64,
-    pub height: u64,
-    pub filter: Filter,
-    pub cost: u64,
-}
 
 // What a fill answers: its code, how many messages it collected, its operations, how many messages it dropped; and the three as they are
 // afterwards.

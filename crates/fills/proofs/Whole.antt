@@ -22,7 +22,8 @@ use Rattle.entry_rules.specs.Calling.{Call, GoodCall, places, args, setOf}
 use Rattle.meaning.specs.Passes.{RanC}
 use Rattle.works.specs.Works.{ranW}
 use Rattle.works.specs.declared.Done.{Done}
-use Rattle.refusals.specs.Refusals.{rowsIn, MayDecide, codeC}
+use Rattle.limits.specs.Limits.{rowsIn}
+use Rattle.refusals.specs.Refusals.{MayDecide, codeC}
 use Rattle.settle_rules.specs.Settling.{MaySettle, Settled}
 use Rattle.fill_rules.specs.Passing.{MayPass, Passed, passW, accountsOf, heldOf, slotsOf, opensOf, ranOf}
 use Rattle.fill_rules.specs.Fills.{Keys, keys, rowsOfKeys, codeOf, Accepted, Says, says, Left, left, Stays, Takes, Fills}
@@ -32,6 +33,9 @@ use Rattle.fill_rules.proofs.SettleRule.{may-settle}
 use Rattle.fill_rules.proofs.Ruled.{fills-taken, fills-refused}
 use Rattle.standstill.specs.Idle.{idleC}
 use Rattle.standstill.proofs.Still.{stands-still}
+use Rattle.moves.specs.declared.Tally.{Tally}
+use Rattle.fill_answer.specs.Answers.{answered}
+use Rattle.fill_answer.specs.declared.Answer.{Answer}
 
 -- the rows that all three columns have stand in them
 pub spoken : (set : List ℕ) (held : ℕ) (names verdicts costs : List ℕ) (cost : ℕ) → GoodRows held set
@@ -42,6 +46,11 @@ spoken set held names verdicts costs cost good = record {
   verdicts = omega arith;
   costs = omega arith;
 }
+
+-- the answer made of the counts says them
+pub told : {v : Call} {k : Keys} {z : Left} {code : Code} (t : Tally) {n : ℕ} (r : Answer) → r ≡ answered code t n
+    → Fills v k (says code (t .taken) (t .ops) n) z → Fills v k (says (r .code) (r .collected) (r .operations) (r .dropped)) z
+told {v} {k} {z} t r e f = subst (λ (x : Answer). Fills v k (says (x .code) (x .collected) (x .operations) (x .dropped)) z) (sym e) f
 
 -- what is said, with n rows
 abbrev saidOf : Sayings → ℕ → Sayings

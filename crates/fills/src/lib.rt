@@ -13,20 +13,12 @@ ghost use Rattle.numbered.specs.Begin.{accounts as accountsOf, held as heldOf, 
 ghost use Rattle.works.specs.Works.{ranW};
 ghost use Rattle.fill_rules.specs.Passing.{MayPass, passW};
 ghost use Rattle.fill_rules.specs.Fills.{callOf, keys, says, left, Fills};
-use message::Code;
+use fill_answer::Answer;
 use message::Filter;
 use moves::Fixed;
 use moves::Tally;
 use numbers::SlotId;
 use works::Done;
-
-// What a fill answers beside what it changes: its code, how many messages it collected, its operations, and how many it dropped.
-pub struct Answer {
-    pub code: Code,
-    pub collected: usize,
-    pub operations: u64,
-    pub dropped: usize,
-}
 
 // Entry and passes of a fill that is taken: `opens` slots are to be opened.
 fn pass(
@@ -138,8 +130,8 @@ pub fn fill(
     requires { ⌜ Good (cols (now owner) (now kind) (now form) (now time) (now address) (now hash) (now accounts) (now numbers)) × GroupGood (table (now number2) (now ints2) (now exts2) (now accounts2) (now home2) (now owner2) (now kind2) (now form2) (now time2) (now address2) (now hash2) (now buckets2) (now numbers2)) × GoodRows (now held) (now set) ⌝ }
     ensures { λ r. ⌜ Fills (callOf (cols (now (owner .entry)) (now (kind .entry)) (now (form .entry)) (now (time .entry)) (now (address .entry)) (now (hash .entry)) (now (accounts .entry)) (now (numbers .entry))) (table (now (number2 .entry)) (now (ints2 .entry)) (now (exts2 .entry)) (now (accounts2 .entry)) (now (home2 .entry)) (now (owner2 .entry)) (now (kind2 .entry)) (now (form2 .entry)) (now (time2 .entry)) (now (address2 .entry)) (now (hash2 .entry)) (now (buckets2 .entry)) (now (numbers2 .entry))) (now (set .entry)) (now (held .entry)) asked height filter (now (names .entry)) (now (verdicts .entry)) (now (costs .entry)) default) (keys (now (lts .entry)) (now (hashes .entry))) (says (r .code) (r .collected) (r .operations) (r .dropped)) (left (cols (now (owner .exit)) (now (kind .exit)) (now (form .exit)) (now (time .exit)) (now (address .exit)) (now (hash .exit)) (now (accounts .exit)) (now (numbers .exit))) (table (now (number2 .exit)) (now (ints2 .exit)) (now (exts2 .exit)) (now (accounts2 .exit)) (now (home2 .exit)) (now (owner2 .exit)) (now (kind2 .exit)) (now (form2 .exit)) (now (time2 .exit)) (now (address2 .exit)) (now (hash2 .exit)) (now (buckets2 .exit)) (now (numbers2 .exit))) (now (set .exit)) (now (held .exit)) (keys (now (lts .exit)) (now (hashes .exit)))) ⌝ }
 {
-    let rows = refusals::rows_said(names, verdicts, costs);
-    let keys = refusals::key_rows(lts, hashes);
+    let rows = limits::rows_said(names, verdicts, costs);
+    let keys = limits::key_rows(lts, hashes);
     let k = *held;
     let cells = *buckets2;
     let code = refusals::decide(
@@ -228,10 +220,5 @@ pub fn fill(
         hashes,
     );
     let tally = done.tally;
-    Answer {
-        code,
-        collected: tally.taken,
-        operations: tally.ops,
-        dropped: done.dropped,
-    }
+    fill_answer::answer_of(code, tally, done.dropped)
 }

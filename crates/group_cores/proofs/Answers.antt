@@ -19,7 +19,8 @@ use Rattle.groups.proofs.SetUp.{set-up-done, set-up-refused}
 use Rattle.export_parts.specs.Parts.{Told, ToldMessage}
 use Rattle.group_reads.specs.declared.SeenId.{SeenId}
 use Rattle.group_reads.specs.declared.SeenSlot.{SeenSlot}
-use Rattle.group_cores.specs.Told.{SetsUp, ToldId, ToldSlot}
+use Rattle.group_parts.specs.Told.{ToldId, ToldSlot}
+use Rattle.group_cores.specs.Told.{SetsUp}
 
 -- ---- set-up
 

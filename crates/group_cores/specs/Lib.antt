@@ -1,2 +1,2 @@
--- What the contracts of a group's exports cite.
+-- What the contract of a group's set-up cites.
 pub mod Told

@@ -1,10 +1,8 @@
-// What each export of a group does, on lent columns: set-up, and each read of crates `group_reads` and `group_seen` with its answer written out
-// in numbers. A test answers 1 or 0.
+// What each export of a group does, on lent columns: set-up, and each read of crates `group_reads`, `group_shown`, `slots_seen`,
+// `accounts_seen` and `messages_seen` with its answer written out in numbers (crate `group_parts`).
 ghost use mathlib.Core.Path.{_≡_};
-ghost use mathlib.Core.Bool.{cond};
 ghost use Prim.Native.Nat.{_≤_};
 ghost use lib.ListN.{length, getD};
-ghost use Rattle.rules.specs.Calls.{within};
 ghost use Rattle.display.specs.Line.{written};
 ghost use Rattle.queues.specs.Look.{rowOf};
 ghost use Rattle.slots.specs.Table.{table};
@@ -13,10 +11,11 @@ ghost use Rattle.buckets.specs.Cells.{GoodBuckets};
 ghost use Rattle.export_parts.specs.Parts.{bit, Told, ToldMessage};
 ghost use Rattle.group_reads.specs.Shown.{lineFor};
 ghost use Rattle.group_reads.specs.Lent.{countsIn, emptyIn, filledIn, lastIn};
-ghost use Rattle.group_seen.specs.Lent.{holds, entryIn, idFound, slotFound, accountFound, messageFound, rowFor, AccountsIn, SlotsIn, MessagesIn};
-ghost use Rattle.group_cores.specs.Told.{SetsUp, listed, ToldId, ToldSlot};
-use group_reads::SeenId;
-use group_reads::SeenSlot;
+ghost use Rattle.slots_seen.specs.Slots.{slotFound, entryIn, idFound, SlotsIn};
+ghost use Rattle.accounts_seen.specs.Accounts.{holds, accountFound, AccountsIn};
+ghost use Rattle.messages_seen.specs.Messages.{rowFor, messageFound, MessagesIn};
+ghost use Rattle.group_parts.specs.Told.{listed, ToldId, ToldSlot};
+ghost use Rattle.group_cores.specs.Told.{SetsUp};
 use group_reads::held;
 
 // ---- set-up
@@ -51,34 +50,10 @@ pub fn fresh(
     *time = [0u64; 1024];
     *address = [0u8; 32768];
     *hash = [0u8; 32768];
-    *buckets = [buckets::NONE; 1088];
     let mut sizes = [0u64; 16];
     sizes[0] = s;
     *numbers = sizes;
-}
-
-// Whether a group may have this many slots.
-fn sizable(s: u64) -> bool
-    ensures { λ r. ⌜ r ≡ within 1 64 s ⌝ }
-{
-    if s < 1 {
-        return false;
-    }
-    s <= 64
-}
-
-// The slots that a set-up gives room for: those asked for, or one.
-fn room_for(s: u64) -> u64
-    ensures { λ r. ⌜ r ≡ cond (within 1 64 s) s 1 ⌝ }
-{
-    if sizable(s) { s } else { 1 }
-}
-
-// The code of a set-up.
-fn code_for(s: u64) -> u8
-    ensures { λ r. ⌜ r ≡ cond (within 1 64 s) 0 1 ⌝ }
-{
-    if sizable(s) { 0 } else { 1 }
+    clearing::clear_buckets(buckets);
 }
 
 pub fn set_up(
@@ -99,7 +74,7 @@ pub fn set_up(
 ) -> u8
     ensures { λ r. ⌜ SetsUp s r (table (now (number .exit)) (now (ints .exit)) (now (exts .exit)) (now (accounts .exit)) (now (home .exit)) (now (owner .exit)) (now (kind .exit)) (now (form .exit)) (now (time .exit)) (now (address .exit)) (now (hash .exit)) (now (buckets .exit)) (now (numbers .exit))) ⌝ }
 {
-    let room = room_for(s);
+    let room = group_parts::room_for(s);
     fresh(
         number,
         ints,
@@ -116,7 +91,7 @@ pub fn set_up(
         numbers,
         room,
     );
-    code_for(s)
+    group_parts::code_for(s)
 }
 
 // ---- what a group holds
@@ -126,7 +101,7 @@ pub fn counts(numbers: &[u64; 16], out: &mut [u64; 6]) -> u8
     ensures { λ r. ⌜ (r ≡ 0) × (now (out .exit) ≡ listed (countsIn (now (numbers .entry)))) ⌝ }
 {
     let c = held::counts(numbers);
-    *out = [c.capacity, c.slots, c.accounts, c.messages, c.ints, c.exts];
+    group_parts::tell_counts(c, out);
     0
 }
 
@@ -142,23 +117,14 @@ pub fn contains_account(accounts: &[u8; 32768], numbers: &[u64; 16], name: &[u8;
     ensures { λ r. ⌜ r ≡ bit (holds (now (accounts .entry)) (now (numbers .entry)) (now (name .entry))) ⌝ }
 {
     let x = *name;
-    export_parts::bit_of(group_seen::contains_account(accounts, numbers, x))
+    export_parts::bit_of(accounts_seen::contains_account(accounts, numbers, x))
 }
 
 pub fn check_is_filled(buckets: &[u32; 1088], numbers: &[u64; 16], asked: u64, height: u64) -> u8
     requires { ⌜ length (now numbers) ≡ 16 ⌝ }
     ensures { λ r. ⌜ r ≡ bit (filledIn (now (buckets .entry)) (now (numbers .entry)) asked height) ⌝ }
 {
-    export_parts::bit_of(held::check_is_filled(buckets, numbers, asked, height as usize))
-}
-
-// Writes a slot number, and answers whether there is one.
-fn tell_id(found: SeenId, out: &mut [u16; 1]) -> u8
-    ensures { λ r. ⌜ ToldId r (now (out .exit)) found ⌝ }
-{
-    let id = found.id;
-    *out = [id.0];
-    export_parts::bit_of(found.found)
+    export_parts::bit_of(group_shown::check_is_filled(buckets, numbers, asked, height as usize))
 }
 
 pub fn last_slot(numbers: &[u64; 16], out: &mut [u16; 1]) -> u8
@@ -166,29 +132,17 @@ pub fn last_slot(numbers: &[u64; 16], out: &mut [u16; 1]) -> u8
     ensures { λ r. ⌜ ToldId r (now (out .exit)) (lastIn (now (numbers .entry))) ⌝ }
 {
     let last = held::last_slot(numbers);
-    tell_id(last, out)
+    group_parts::tell_id(last, out)
 }
 
 pub fn display(numbers: &[u64; 16], out: &mut [u8]) -> u64
     requires { ⌜ length (now numbers) ≡ 16 ⌝ }
     ensures { λ r. ⌜ (r ≡ length (lineFor (countsIn (now (numbers .entry))))) × (now (out .exit) ≡ written (lineFor (countsIn (now (numbers .entry)))) (now (out .entry))) ⌝ }
 {
-    held::display(numbers, out) as u64
+    group_shown::display(numbers, out) as u64
 }
 
 // ---- the walks
-
-// Writes a slot's number and counts, and answers whether there is one.
-fn tell_slot(found: SeenSlot, out: &mut [u64; 3]) -> u8
-    ensures { λ r. ⌜ ToldSlot r (now (out .exit)) found ⌝ }
-{
-    let id = found.id;
-    let number = numbers::wide16(id.0);
-    let ints = numbers::wide8(found.ints);
-    let exts = numbers::wide8(found.exts);
-    *out = [number as u64, ints as u64, exts as u64];
-    export_parts::bit_of(found.found)
-}
 
 pub fn slot_at(
     number: &[u16; 64],
@@ -201,15 +155,15 @@ pub fn slot_at(
     requires { ⌜ SlotsIn (length (now number)) (length (now ints)) (length (now exts)) (now numbers) ⌝ }
     ensures { λ r. ⌜ ToldSlot r (now (out .exit)) (slotFound (now (number .entry)) (now (ints .entry)) (now (exts .entry)) (now (numbers .entry)) position) ⌝ }
 {
-    let slot = group_seen::slot_at(number, ints, exts, numbers, position as usize);
-    tell_slot(slot, out)
+    let slot = slots_seen::slot_at(number, ints, exts, numbers, position as usize);
+    group_parts::tell_slot(slot, out)
 }
 
 pub fn account_at(accounts: &[u8; 32768], numbers: &[u64; 16], out: &mut [u8; 32], k: u64) -> u8
     requires { ⌜ AccountsIn (length (now accounts)) (now numbers) ⌝ }
     ensures { λ r. ⌜ Told r (now (out .exit)) (accountFound (now (accounts .entry)) (now (numbers .entry)) k) ⌝ }
 {
-    let account = group_seen::account_at(accounts, numbers, k as usize);
+    let account = accounts_seen::account_at(accounts, numbers, k as usize);
     export_parts::tell_account(account, out)
 }
 
@@ -224,7 +178,7 @@ pub fn slot_account_at(
     requires { ⌜ AccountsIn (length (now accounts)) (now numbers) × (length (now home) ≡ 1024) ⌝ }
     ensures { λ r. ⌜ Told r (now (out .exit)) (accountFound (now (accounts .entry)) (now (numbers .entry)) (rowOf (now (home .entry)) (getD (now (numbers .entry)) 2 0) position k)) ⌝ }
 {
-    let account = group_seen::slot_account_at(
+    let account = accounts_seen::slot_account_at(
         accounts,
         home,
         numbers,
@@ -253,7 +207,7 @@ pub fn message_at(
     ensures { λ r. ⌜ ToldMessage r (now (facts .exit)) (now (to .exit)) (now (hashed .exit)) (messageFound (now (kind .entry)) (now (form .entry)) (now (time .entry)) (now (address .entry)) (now (hash .entry)) (now (numbers .entry)) (rowFor (now (accounts .entry)) (now (owner .entry)) (now (numbers .entry)) (now (name .entry)) k)) ⌝ }
 {
     let x = *name;
-    let m = group_seen::message_at(
+    let m = messages_seen::message_at(
         accounts,
         owner,
         kind,
@@ -272,6 +226,6 @@ pub fn bucket_at(buckets: &[u32; 1088], out: &mut [u16; 1], count: u64, k: u64) 
     requires { ⌜ GoodBuckets (now buckets) ⌝ }
     ensures { λ r. ⌜ ToldId r (now (out .exit)) (idFound (entryIn (now (buckets .entry)) count k)) ⌝ }
 {
-    let id = group_seen::bucket_at(buckets, count as usize, k as usize);
-    tell_id(id, out)
+    let id = slots_seen::bucket_at(buckets, count as usize, k as usize);
+    group_parts::tell_id(id, out)
 }

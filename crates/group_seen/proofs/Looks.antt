@@ -28,7 +28,9 @@ use Rattle.slots.specs.Good.{Good}
 use Rattle.buffer_rules.proofs.LookRule.{account-told}
 use Rattle.group_rules.proofs.GroupLook.{slot-told, slot-account-told, list-told, entry-told}
 use Rattle.group_reads.specs.Shown.{seenId, seenSlot, accountsAt}
-use Rattle.group_seen.specs.Lent.{slotFound, accountFound, messageFound, rowFor, entryIn, idFound, AccountsIn, SlotsIn, MessagesIn}
+use Rattle.slots_seen.specs.Slots.{slotFound, entryIn, idFound, SlotsIn}
+use Rattle.accounts_seen.specs.Accounts.{accountFound, AccountsIn}
+use Rattle.messages_seen.specs.Messages.{rowFor, messageFound, MessagesIn}
 
 slot-is : (b : Bool) (s : Slot Real) → cond b (seenSlot (some s)) (seenSlot none) ≡ seenSlot (cond b (some s) none)
 slot-is true s = refl

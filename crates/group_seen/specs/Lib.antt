@@ -1,2 +1,1 @@
--- What the walks of a group cite: what they see in lent columns, and what they ask of them.
-pub mod Lent
+-- No definitions of its own: what is seen is said beside the reads (crates slots_seen, accounts_seen, messages_seen).

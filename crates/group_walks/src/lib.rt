@@ -1,5 +1,5 @@
 // The walks of a group: slots by rising number, the accounts of a slot, lists, messages, buckets; and whether an account is there. Each is a
-// read of crate `group_seen` on copies of the columns that it needs.
+// read of crates `slots_seen`, `accounts_seen` and `messages_seen` on copies of the columns that it needs.
 ghost use mathlib.Core.Path.{_≡_};
 ghost use mathlib.Core.List.{[]};
 ghost use lib.ListN.{getD};
@@ -23,7 +23,7 @@ pub fn contains_account(group: Group, name: [u8; 32]) -> bool
 {
     let accounts = group.accounts;
     let numbers = group.numbers;
-    group_seen::contains_account(&accounts, &numbers, name)
+    accounts_seen::contains_account(&accounts, &numbers, name)
 }
 
 // The slot at a position, by rising number; none past the end.
@@ -35,7 +35,7 @@ pub fn slot_at(group: Group, position: usize) -> SeenSlot
     let ints = group.ints;
     let exts = group.exts;
     let numbers = group.numbers;
-    group_seen::slot_at(&number, &ints, &exts, &numbers, position)
+    slots_seen::slot_at(&number, &ints, &exts, &numbers, position)
 }
 
 // The k-th account of the slot at a position; none past either end.
@@ -46,7 +46,7 @@ pub fn slot_account_at(group: Group, position: usize, k: usize) -> SeenAccount
     let accounts = group.accounts;
     let home = group.home;
     let numbers = group.numbers;
-    group_seen::slot_account_at(&accounts, &home, &numbers, position, k)
+    accounts_seen::slot_account_at(&accounts, &home, &numbers, position, k)
 }
 
 // The account with the k-th list; none past the end.
@@ -56,7 +56,7 @@ pub fn account_at(group: Group, k: usize) -> SeenAccount
 {
     let accounts = group.accounts;
     let numbers = group.numbers;
-    group_seen::account_at(&accounts, &numbers, k)
+    accounts_seen::account_at(&accounts, &numbers, k)
 }
 
 // The k-th message of an account's list; none past the end or without a list.
@@ -72,7 +72,7 @@ pub fn message_at(group: Group, name: [u8; 32], k: usize) -> SeenMessage
     let address = group.address;
     let hash = group.hash;
     let numbers = group.numbers;
-    group_seen::message_at(
+    messages_seen::message_at(
         &accounts,
         &owner,
         &kind,
@@ -92,5 +92,5 @@ pub fn bucket_at(group: Group, count: usize, k: usize) -> SeenId
     ensures { λ r. ⌜ r ≡ seenId (nth k (getD (meant (tableOf group) .now .index) count [])) ⌝ }
 {
     let cells = group.buckets;
-    group_seen::bucket_at(&cells, count, k)
+    slots_seen::bucket_at(&cells, count, k)
 }

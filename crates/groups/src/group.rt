@@ -105,7 +105,7 @@ impl Group {
     {
         let numbers = self.numbers;
         let cells = self.buckets;
-        held::check_is_filled(&cells, &numbers, asked, height)
+        group_shown::check_is_filled(&cells, &numbers, asked, height)
     }
 
     // The last slot number that was given; it is not the number of slots.
@@ -123,6 +123,6 @@ impl Group {
         ensures { λ r. ⌜ Displays (meant (tableOf self)) (now (out .entry)) (now (out .exit)) r ⌝ }
     {
         let numbers = self.numbers;
-        held::display(&numbers, out)
+        group_shown::display(&numbers, out)
     }
 }

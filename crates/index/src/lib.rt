@@ -17,7 +17,7 @@ pub fn find(accounts: &[u8; 16384], places: usize, numbers: &[u64; 528], x: &[u8
     let mut next = numbers[272 + hash] as usize;
     while next != 0 {
         let place = next - 1;
-        if columns::same_row(accounts, place, x) {
+        if rows::same_row(accounts, place, x) {
             return place;
         }
         next = numbers[16 + place] as usize;
@@ -48,7 +48,7 @@ pub fn rebuild(accounts: &[u8; 16384], places: usize, numbers: &mut [u64; 528])
     requires { ⌜ (32 * places ≤ length (now accounts)) × (places ≤ 256) × (length (now numbers) ≡ 528) ⌝ }
     ensures { λ _. ⌜ now (numbers .exit) ≡ indexedBy places (now (accounts .entry)) (now (numbers .entry)) ⌝ }
 {
-    columns::clear_words(numbers, 16, 512);
+    cells::clear_words(numbers, 16, 512);
     let mut place: usize = 0;
     while place < places {
         link(numbers::wide8(accounts[32 * place + 31]), place, numbers);

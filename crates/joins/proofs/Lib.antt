@@ -1,3 +1,3 @@
--- Laws of the loops of a join.
-pub mod Raised
+-- Laws of the loops of a join: Shared (an account of both groups), Sums (the counts of slots).
 pub mod Shared
+pub mod Sums

@@ -1,2 +1,2 @@
--- What the loops and the parts of a join need.
+-- What a join asks of the numbers and the counts of two groups.
 pub mod Laying

@@ -1,3 +1,2 @@
-// A join of two groups on their columns, part by part. No part lends more than a dozen columns, and nothing is copied that stays.
+// What a join of two groups decides and counts. Their rows are joined in crates `slot_joins`, `row_joins` and `number_joins`.
 pub mod join;
-pub mod lay;

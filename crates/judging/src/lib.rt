@@ -17,7 +17,7 @@ fn mark_of(set: &[u8], k: usize, verdicts: &[u8], n: usize, row: usize, x: &[u8;
     requires { ⌜ (32 * k ≤ length (now set)) × (n ≤ length (now verdicts)) × (length (now x) ≡ 32) ⌝ }
     ensures { λ r. ⌜ r ≡ markBy (now (set .entry)) k (now (verdicts .entry)) n row (now (x .entry)) ⌝ }
 {
-    if columns::find_row(set, k, x) < k {
+    if rows::find_row(set, k, x) < k {
         return 2;
     }
     if row < n {
@@ -42,7 +42,7 @@ pub fn judge(
     requires { ⌜ Spoken (sayings (now set) k (now names) (now verdicts) (now costs) n cost) × (length (now x) ≡ 32) ⌝ }
     ensures { λ r. ⌜ (r .mark ≡ markOf (sayings (now (set .entry)) k (now (names .entry)) (now (verdicts .entry)) (now (costs .entry)) n cost) (now (x .entry))) × (r .cost ≡ costOf (sayings (now (set .entry)) k (now (names .entry)) (now (verdicts .entry)) (now (costs .entry)) n cost) (now (x .entry))) ⌝ }
 {
-    let row = columns::find_row(names, n, x);
+    let row = rows::find_row(names, n, x);
     let mark = mark_of(set, k, verdicts, n, row, x);
     if row < n {
         return Said {
@@ -75,7 +75,7 @@ pub fn judge_order(
 {
     let mut p: usize = 0;
     while p < places {
-        let x = columns::get_row(accounts, p);
+        let x = rows::get_row(accounts, p);
         let said = judge(set, k, names, verdicts, costs, n, default, &x);
         mark[p] = said.mark;
         cost[p] = said.cost;
@@ -109,7 +109,7 @@ pub fn judge_group(
             cost: default,
         };
         if numbers::wide16(member[g]) == 256 + g {
-            let x = columns::get_row(accounts, g);
+            let x = rows::get_row(accounts, g);
             said = judge(set, k, names, verdicts, costs, n, default, &x);
         }
         mark[256 + g] = said.mark;

@@ -20,7 +20,7 @@ use Rattle.buffers.specs.Buffers as buffers
 use Rattle.groups.specs.Groups as groups
 use Rattle.joining.specs.Joins as joining
 use Rattle.skipped.specs.Sets as skipped
-use Rattle.filling.specs.declared.Asked.{Asked}
+use Rattle.fill_answer.specs.declared.Asked.{Asked}
 use Rattle.filling.specs.Filling as filling
 use Rattle.lintelsong.specs.declared.Buffer.{Buffer}
 use Rattle.lintelsong.specs.declared.Group.{Group}

@@ -4,7 +4,7 @@ ghost use Rattle.lintelsong.specs.Closed.{GoodBuffer, GoodGroup, GoodSet
 use crate::Buffer;
 use crate::Group;
 use crate::Skipped;
-use filling::Asked;
+use fill_answer::Asked;
 use message::Code;
 
 // What a fill answers: its code, how many messages it collected, its operations, how many messages it dropped; and the three as they are

@@ -1,51 +1,14 @@
--- A column whose cells in use are cleared is as long a column of zeros; so a well formed group is left fresh by clearing what it holds.
--- Assumes nothing.
-use mathlib.Core.Path.{_≡_, sym, _∙_}
+-- What a well formed group holds is in use, and its columns cleared are those of a fresh group. Assumes nothing.
+use mathlib.Core.Path.{_≡_}
 use mathlib.Core.List.{List, _∷_}
-use Prim.Native.Nat.{ℕ, _+_, _*_, _<_, _≤_}
-use native.Mathlib.Nat.{zero-add}
+use Prim.Native.Nat.{ℕ, _*_, _≤_}
 use native.Mathlib.Omega.{arith}
-use lib.Dec.{ltb}
-use lib.ListN.{length, getD, replicate, length-replicate, getD-replicate}
-use lib.Seq.{ext-getD}
-use borrow.Author.Tests.{ltb-true, ltb-false}
-use Rattle.numbers.proofs.Bytes.{byBool}
-use Rattle.columns.specs.Laid.{laidAt}
-use Rattle.columns.proofs.Laid.{length-laid, getD-laid-in, getD-laid-behind}
+use lib.ListN.{replicate}
+use Rattle.buckets.specs.Cells.{mark}
 use Rattle.slots.specs.Table.{Table, table, count}
 use Rattle.slots.specs.Good.{Good}
 use Rattle.slots.specs.Join.{freshT}
-use Rattle.merging.specs.Merges.{InUse, Clear}
-
-module _ {n size : ℕ} {col : List ℕ} (u : InUse n size col) where
-  -- what is laid
-  size-laid : length (replicate {A = ℕ} n 0) ≡ n
-  size-laid = length-replicate {A = ℕ} n 0
-
-  pub room : 0 + n ≤ length col
-  room = omega (arith, u .long, u .few)
-
-  fits : 0 + length (replicate {A = ℕ} n 0) ≤ length col
-  fits = omega (arith, size-laid, room)
-
-  zero-at : (i : ℕ) → i < size → getD (laidAt 0 (replicate n 0) col) i 0 ≡ 0
-  zero-at i l =
-      byBool (ltb i n)
-      (λ t.
-      let h = ltb-true i n t in
-      (rw (zero-add i) at (getD-laid-in 0 (replicate n 0) col fits i 0 (omega (arith, size-laid)))) ∙ getD-replicate n i 0 0 h)
-      (λ f.
-      let h = ltb-false i n f in
-      getD-laid-behind 0 (replicate n 0) col fits i 0 (omega (arith, size-laid)) ∙ u .past i h l)
-
-  pub cleared : (made : List ℕ) → made ≡ laidAt 0 (replicate n 0) col → Clear size made
-  cleared made e =
-      let long : length (laidAt 0 (replicate n 0) col) ≡ size = length-laid 0 (replicate n 0) col fits ∙ u .long in
-      e
-      ∙ ext-getD 0 (laidAt 0 (replicate n 0) col) (replicate size 0) (long ∙ sym (length-replicate {A = ℕ} size 0))
-      (λ i l. zero-at i (omega (arith, long)) ∙ sym (getD-replicate size i 0 0 (omega (arith, long))))
-
--- ---- the columns of a well formed group
+use Rattle.clearing.specs.Clear.{InUse, Clear}
 
 module _ (t : Table) (g : Good t) where
   slots-few : count t 1 ≤ 64
@@ -79,12 +42,13 @@ module _ (t : Table) (g : Good t) where
   )
 
 -- the columns together
-pub left-fresh : {number ints exts accounts home owner kind form time address hash : List ℕ} (S : ℕ)
+pub left-fresh : {number ints exts accounts home owner kind form time address hash buckets numbers : List ℕ} (S : ℕ)
     → Clear 64 number × Clear 64 ints × Clear 64 exts → Clear 32768 accounts × Clear 1024 home
     → Clear 1024 owner × Clear 1024 kind × Clear 1024 form × Clear 1024 time → Clear 32768 address × Clear 32768 hash
-    → table number ints exts accounts home owner kind form time address hash (replicate 1088 65536) (S ∷ replicate 15 0) ≡ freshT S
+    → buckets ≡ replicate 1088 mark → numbers ≡ S ∷ replicate 15 0
+    → table number ints exts accounts home owner kind form time address hash buckets numbers ≡ freshT S
 unfolding freshT
-left-fresh S s a m d = λ i. record {
+left-fresh S s a m d b n = λ i. record {
   number = s .0 i;
   ints = s .1 i;
   exts = s .2 i;
@@ -96,6 +60,6 @@ left-fresh S s a m d = λ i. record {
   time = m .3 i;
   address = d .0 i;
   hash = d .1 i;
-  buckets = replicate 1088 65536;
-  numbers = S ∷ replicate 15 0;
+  buckets = b i;
+  numbers = n i;
 }

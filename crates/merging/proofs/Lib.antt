@@ -1,4 +1,4 @@
--- What the proofs of a join share: Cleared (a column whose cells in use are cleared), Merging (what each part needs, and what the parts make
--- together).
+-- What the proofs of a join share: Cleared (what a group holds is in use, and cleared it is fresh), Merging (what each part needs, and what the
+-- parts make together).
 pub mod Cleared
 pub mod Merging

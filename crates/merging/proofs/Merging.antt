@@ -2,14 +2,10 @@
 -- Assumes nothing.
 use mathlib.Core.Path.{_≡_, refl, sym, ap, subst, _∙_}
 use mathlib.Core.List.{List}
-use Prim.Native.Nat.{ℕ, zero, suc, _+_, _-_, _≤_}
+use Prim.Native.Nat.{ℕ, zero, suc, _+_, _≤_}
 use native.Mathlib.Omega.{arith}
-use lib.ListN.{length, getD, take, drop}
+use lib.ListN.{length, getD}
 use borrow.Author.Tests.{ne-eqb}
-use Rattle.columns.specs.Lists.{tabI}
-use Rattle.columns.specs.Laid.{laidAt}
-use Rattle.columns.proofs.Laid.{length-laid, middle-laid}
-use Rattle.columns.proofs.Tabs.{length-tab}
 use Rattle.rules.specs.Fill.{nextNumber, groupInts, groupExts, renumbered, listedToo}
 use Rattle.rules.specs.Queues.{allMsgs}
 use Rattle.rules.specs.Calls as calls
@@ -20,13 +16,13 @@ use Rattle.message.specs.Real.{Real}
 use Rattle.queues.specs.Meant.{orderOf}
 use Rattle.queues.proofs.Counts.{both-kinds}
 use Rattle.buckets.specs.Cells.{index, GoodBuckets}
-use Rattle.buckets.specs.Moves as moves
-use Rattle.buckets.specs.Moves.{Plain, Leaves, MayList}
 use Rattle.slots.specs.Table.{Table, count}
 use Rattle.slots.specs.Meant.{listed, groupOf, meant}
 use Rattle.slots.specs.Good.{Good}
-use Rattle.slots.specs.Join.{freshT, nextT, joinCodeT, joinedNumbersBy, joinedT, SlotsJoined, AccountsJoined, MessagesJoined, RecordsJoined}
-use Rattle.joins.specs.Laying.{Rooms, Summable}
+use Rattle.slots.specs.Join.{freshT, nextT, joinCodeT, joinedNumbersBy, joinedT, AccountsJoined, MessagesJoined, RecordsJoined}
+use Rattle.joins.specs.Laying.{Rooms}
+use Rattle.number_joins.specs.Sums.{Summable}
+use Rattle.slot_joins.specs.Slots.{MayAddSlots, SlotsAdded}
 use Rattle.group_rules.proofs.GroupLook.{messages-told}
 use Rattle.group_rules.proofs.JoinCode.{refused-is, joins}
 use Rattle.group_rules.proofs.JoinRoom.{Pair, pair, slots-fit, accounts-fit, messages-fit}
@@ -34,7 +30,7 @@ use Rattle.group_rules.proofs.JoinRule.{join-is}
 use Rattle.group_rules.proofs.JoinIndex.{slot-small, listable-from, index-from}
 use Rattle.group_rules.proofs.JoinGood.{join-good}
 use Rattle.group_rules.proofs.FreshRule.{fresh-good}
-use Rattle.merging.specs.Merges.{rows, Merges, Counts, MayAddSlots, SlotsAdded, MayAdd, Added}
+use Rattle.merging.specs.Merges.{rows, Merges, MayAdd, Added}
 
 -- a join that is taken
 pub record Joinable (l r : Table) : Type 0 where
@@ -89,38 +85,6 @@ rooms t g = record {
   last = g .last;
   table = g .lengths .accounts;
 }
-
--- ---- the new slots: their numbers are lent as a slice of their column
-
-abbrev new : (n first : ℕ) → List ℕ
-new n first = tabI n first (λ k. k)
-
-module _ {held n first ints exts : ℕ} {buckets ints2 exts2 : List ℕ} (number number′ : List ℕ)
-    (p : MayAddSlots held n first (length number) ints exts buckets ints2 exts2) (e : number′ ≡ laidAt held (new n first) number) where
-  fits : held + length (new n first) ≤ length number
-  fits = omega (arith, length-tab n first (λ (k : ℕ). k), p .room .room, p .room .number)
-
-  pub ends : held + n ≤ length number′
-  ends = omega (arith, ap length e, length-laid held (new n first) number fits, p .room .room, p .room .number)
-
-  slice-is : take (held + n - held) (drop held number′) ≡ new n first
-  slice-is =
-      let z : held + n - held ≡ n = omega arith in
-      rw (z, e) (rw (length-tab n first (λ (k : ℕ). k)) at (middle-laid held (new n first) number fits))
-
-  pub listable : (counts : List ℕ) → Counts n ints2 exts2 counts → MayList buckets (take (held + n - held) (drop held number′)) counts n
-  listable counts c = subst (λ (ns : List ℕ). MayList buckets ns counts n) (sym slice-is) (p .lists counts c)
-
-  pub slots-added : {ints₀ exts₀ ints′ exts′ : List ℕ} → SlotsJoined held n first ints2 exts2 number ints₀ exts₀ number′ ints′ exts′
-      → (counts : List ℕ) → Counts n ints2 exts2 counts → (cells : List ℕ)
-      → Leaves (listedToo Plain (moves.slotsOf (take (held + n - held) (drop held number′)) counts n) 0 (index buckets)) cells
-      → SlotsAdded held n first ints2 exts2 number ints₀ exts₀ buckets number′ ints′ exts′ cells
-  slots-added s counts c cells v = record {
-    joined = s;
-    counts = counts;
-    counted = c;
-    listed = subst (λ (ns : List ℕ). Leaves (listedToo Plain (moves.slotsOf ns counts n) 0 (index buckets)) cells) slice-is v;
-  }
 
 -- ---- all rows; `first` is the number of the first new slot
 

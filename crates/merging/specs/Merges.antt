@@ -2,23 +2,20 @@
 use mathlib.Core.Path.{_≡_}
 use mathlib.Core.Bool.{cond}
 use mathlib.Core.List.{List, []}
-use Prim.Native.Nat.{ℕ, _+_, _≤_, _<_}
+use Prim.Native.Nat.{ℕ, _≤_}
 use lib.Dec.{eqb}
-use lib.ListN.{length, getD, replicate}
-use Rattle.rules.specs.Fill.{listedToo}
+use lib.ListN.{length}
 use Rattle.rules.specs.Calls as calls
 use Rattle.message.specs.declared.Code.{Code}
 use Rattle.message.specs.Answers.{number as numberOf}
 use Rattle.message.specs.Real.{Real}
-use Rattle.columns.specs.Lists.{tabI}
-use Rattle.queues.specs.Good.{Zeros}
-use Rattle.buckets.specs.Cells.{index}
-use Rattle.buckets.specs.Moves.{Plain, Leaves, MayList, slotsOf}
 use Rattle.slots.specs.Table.{Table, table, count}
 use Rattle.slots.specs.Meant.{meant}
 use Rattle.slots.specs.Good.{Good}
-use Rattle.slots.specs.Join.{freshT, nextT, joinCodeT, joinedNumbersBy, joinedT, SlotsJoined, AccountsJoined, MessagesJoined, RecordsJoined}
-use Rattle.joins.specs.Laying.{SlotRoom, AccountRoom, MessageRoom, RecordRoom, Summable, Countable}
+use Rattle.slots.specs.Join.{freshT, nextT, joinCodeT, joinedNumbersBy, joinedT, AccountsJoined, MessagesJoined, RecordsJoined}
+use Rattle.number_joins.specs.Sums.{Summable}
+use Rattle.slot_joins.specs.Slots.{MayAddSlots, SlotsAdded}
+use Rattle.row_joins.specs.Rooms.{AccountRoom, MessageRoom, RecordRoom}
 
 -- ---- a join: both groups well formed, the rule's code and meaning, and exactly these columns; well formed buckets are told by their index
 
@@ -32,24 +29,6 @@ pub record Merges (l r : Table) (code : Code) (l′ r′ : Table) : Type 0 where
   pub good : Good l′ × Good r′
   pub ruled : record { code = numberOf code; left = meant l′; right = meant r′ } ≡ calls.joinGroups Real (meant l) (meant r)
   pub exactly : JoinsTo code (joinCodeT l r) l r l′ r′
-
--- ---- the slots: n new ones, numbered from `first` on, behind those held
-
--- a column of 64 counts of the first n slots
-pub record Counts (n : ℕ) (ints exts counts : List ℕ) : Type 0 where
-  pub long : length counts ≡ 64
-  pub each : (i : ℕ) → i < n → getD counts i 0 ≡ getD ints i 0 + getD exts i 0
-
-pub record MayAddSlots (held n first : ℕ) (numbers ints exts : ℕ) (buckets ints2 exts2 : List ℕ) : Type 0 where
-  pub room : SlotRoom held n first numbers ints exts (length ints2) (length exts2)
-  pub few : Countable n ints2 exts2
-  pub lists : (counts : List ℕ) → Counts n ints2 exts2 counts → MayList buckets (tabI n first (λ k. k)) counts n
-
-pub record SlotsAdded (held n first : ℕ) (ints2 exts2 number₀ ints₀ exts₀ buckets₀ number′ ints′ exts′ buckets′ : List ℕ) : Type 0 where
-  pub joined : SlotsJoined held n first ints2 exts2 number₀ ints₀ exts₀ number′ ints′ exts′
-  pub counts : List ℕ
-  pub counted : Counts n ints2 exts2 counts
-  pub listed : Leaves (listedToo Plain (slotsOf (tabI n first (λ k. k)) counts n) 0 (index buckets₀)) buckets′
 
 -- ---- all rows of the right behind those of the left
 
@@ -71,14 +50,3 @@ pub record Added (l r l′ : Table) : Type 0 where
   pub messages : MessagesJoined (count l 3) (count r 3) (count l 2) (r .owner) (r .kind) (r .form) (r .time) (l .owner) (l .kind) (l .form) (l .time) (l′ .owner) (l′ .kind) (l′ .form) (l′ .time)
   pub records : RecordsJoined (count l 3) (count r 3) (r .address) (r .hash) (l .address) (l .hash) (l′ .address) (l′ .hash)
   pub numbers : l′ .numbers ≡ joinedNumbersBy (nextT l) (l .numbers) (r .numbers)
-
--- ---- a column cleared
-
--- of a column of this size the first n cells are in use
-pub record InUse (n size : ℕ) (col : List ℕ) : Type 0 where
-  pub long : length col ≡ size
-  pub few : n ≤ size
-  pub past : Zeros col n size
-
-abbrev pub Clear : (size : ℕ) → List ℕ → Type 0
-Clear size col = col ≡ replicate size 0

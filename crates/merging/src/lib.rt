@@ -1,37 +1,12 @@
 // The join on lent columns: refused, or the right's rows behind the left's and the right cleared. The left's columns come first, then the
 // right's (with a 2). Nothing is copied that stays, and of the right only the cells in use are cleared.
 ghost use mathlib.Core.Path.{_≡_};
-ghost use Prim.Native.Nat.{_*_};
-ghost use lib.ListN.{length, getD};
+ghost use lib.ListN.{getD};
 ghost use Rattle.slots.specs.Table.{table};
 ghost use Rattle.slots.specs.Good.{Good};
 ghost use Rattle.slots.specs.Join.{freshT};
-ghost use Rattle.merging.specs.Merges.{rows, Merges, MayAddSlots, SlotsAdded, MayAdd, Added, InUse, Clear};
+ghost use Rattle.merging.specs.Merges.{rows, Merges, MayAdd, Added};
 use message::Code;
-
-// The right's n slots behind the left's, numbered from `first` on, each listed in the bucket of its count.
-fn add_slots(
-    held: usize,
-    n: usize,
-    first: usize,
-    number: &mut [u16; 64],
-    ints: &mut [u8; 64],
-    exts: &mut [u8; 64],
-    buckets: &mut [u32; 1088],
-    ints2: &[u8; 64],
-    exts2: &[u8; 64],
-)
-    requires { ⌜ MayAddSlots held n first (length (now number)) (length (now ints)) (length (now exts)) (now buckets) (now ints2) (now exts2) ⌝ }
-    ensures { λ _. ⌜ SlotsAdded held n first (now (ints2 .entry)) (now (exts2 .entry)) (now (number .entry)) (now (ints .entry)) (now (exts .entry)) (now (buckets .entry)) (now (number .exit)) (now (ints .exit)) (now (exts .exit)) (now (buckets .exit)) ⌝ }
-{
-    joins::join::join_slots(held, n, first, number, ints, exts, ints2, exts2);
-    let counts = joins::join::counts_of(n, ints2, exts2);
-    let ids = *number;
-    let end = held + n;
-    let cells = *buckets;
-    let made = indexing::list_new(cells, &ids[held..end], &counts, n);
-    *buckets = made;
-}
 
 // The right's rows behind the left's, and the counts of both together.
 fn add(
@@ -68,7 +43,7 @@ fn add(
     let members = numbers[2] as usize;
     let at = numbers[3] as usize;
     let n = numbers2[3] as usize;
-    add_slots(
+    slot_joins::add_slots(
         held,
         numbers2[1] as usize,
         first,
@@ -79,7 +54,7 @@ fn add(
         ints2,
         exts2,
     );
-    joins::join::join_accounts(
+    row_joins::join_accounts(
         members,
         numbers2[2] as usize,
         held as u8,
@@ -88,7 +63,7 @@ fn add(
         accounts2,
         home2,
     );
-    joins::join::join_messages(
+    row_joins::join_messages(
         at,
         n,
         members as u16,
@@ -101,56 +76,11 @@ fn add(
         form2,
         time2,
     );
-    joins::join::join_records(at, n, address, hash, address2, hash2);
-    joins::join::join_numbers(first, numbers, numbers2);
+    row_joins::join_records(at, n, address, hash, address2, hash2);
+    number_joins::join_numbers(first, numbers, numbers2);
 }
 
 // ---- the right left fresh
-
-// Clears the n slots in use.
-fn clear_slots(n: usize, number: &mut [u16; 64], ints: &mut [u8; 64], exts: &mut [u8; 64])
-    requires { ⌜ InUse n 64 (now number) × InUse n 64 (now ints) × InUse n 64 (now exts) ⌝ }
-    ensures { λ _. ⌜ Clear 64 (now (number .exit)) × Clear 64 (now (ints .exit)) × Clear 64 (now (exts .exit)) ⌝ }
-{
-    columns::clear_shorts(number, 0, n);
-    columns::clear_bytes(ints, 0, n);
-    columns::clear_bytes(exts, 0, n);
-}
-
-// Clears the n accounts in use.
-fn clear_accounts(n: usize, accounts: &mut [u8; 32768], home: &mut [u8; 1024])
-    requires { ⌜ InUse (32 * n) 32768 (now accounts) × InUse n 1024 (now home) ⌝ }
-    ensures { λ _. ⌜ Clear 32768 (now (accounts .exit)) × Clear 1024 (now (home .exit)) ⌝ }
-{
-    columns::clear_bytes(accounts, 0, 32 * n);
-    columns::clear_bytes(home, 0, n);
-}
-
-// Clears the n messages in use.
-fn clear_messages(
-    n: usize,
-    owner: &mut [u16; 1024],
-    kind: &mut [u8; 1024],
-    form: &mut [u8; 1024],
-    time: &mut [u64; 1024],
-)
-    requires { ⌜ InUse n 1024 (now owner) × InUse n 1024 (now kind) × InUse n 1024 (now form) × InUse n 1024 (now time) ⌝ }
-    ensures { λ _. ⌜ Clear 1024 (now (owner .exit)) × Clear 1024 (now (kind .exit)) × Clear 1024 (now (form .exit)) × Clear 1024 (now (time .exit)) ⌝ }
-{
-    columns::clear_shorts(owner, 0, n);
-    columns::clear_bytes(kind, 0, n);
-    columns::clear_bytes(form, 0, n);
-    columns::clear_words(time, 0, n);
-}
-
-// Clears the records of the n messages in use.
-fn clear_records(n: usize, address: &mut [u8; 32768], hash: &mut [u8; 32768])
-    requires { ⌜ InUse (32 * n) 32768 (now address) × InUse (32 * n) 32768 (now hash) ⌝ }
-    ensures { λ _. ⌜ Clear 32768 (now (address .exit)) × Clear 32768 (now (hash .exit)) ⌝ }
-{
-    columns::clear_bytes(address, 0, 32 * n);
-    columns::clear_bytes(hash, 0, 32 * n);
-}
 
 // Leaves a group fresh, with its own room.
 fn clear(
@@ -171,19 +101,15 @@ fn clear(
     requires { ⌜ Good (table (now number) (now ints) (now exts) (now accounts) (now home) (now owner) (now kind) (now form) (now time) (now address) (now hash) (now buckets) (now numbers)) ⌝ }
     ensures { λ _. ⌜ table (now (number .exit)) (now (ints .exit)) (now (exts .exit)) (now (accounts .exit)) (now (home .exit)) (now (owner .exit)) (now (kind .exit)) (now (form .exit)) (now (time .exit)) (now (address .exit)) (now (hash .exit)) (now (buckets .exit)) (now (numbers .exit)) ≡ freshT (getD (now (numbers .entry)) 0 0) ⌝ }
 {
-    let room = numbers[0];
     let slots = numbers[1] as usize;
     let members = numbers[2] as usize;
     let n = numbers[3] as usize;
-    clear_slots(slots, number, ints, exts);
-    clear_accounts(members, accounts, home);
-    clear_messages(n, owner, kind, form, time);
-    clear_records(n, address, hash);
-    let none = [buckets::NONE; 1088];
-    let mut fresh = [0u64; 16];
-    fresh[0] = room;
-    *buckets = none;
-    *numbers = fresh;
+    clearing::clear_slots(slots, number, ints, exts);
+    clearing::clear_accounts(members, accounts, home);
+    clearing::clear_messages(n, owner, kind, form, time);
+    clearing::clear_records(n, address, hash);
+    clearing::clear_buckets(buckets);
+    clearing::clear_numbers(numbers);
 }
 
 // ---- the whole join

@@ -9,15 +9,9 @@ ghost use Rattle.meaning.specs.Walks.{Ready, walk};
 ghost use Rattle.meaning.specs.Passes.{passedC, firstC};
 use moves::Fixed;
 use moves::Tally;
+use new_slots::Front;
+use new_slots::Passed;
 use numbers::SlotId;
-
-// Where the first pass stopped: the next place, the counts, how many slots there are, and the last number given.
-pub struct Passed {
-    pub at: usize,
-    pub tally: Tally,
-    pub slots: usize,
-    pub last: SlotId,
-}
 
 // The first pass: `opens` slots are to be opened behind the `slots` that stand, with the numbers behind the last; each is sought an account, and
 // one still empty at the end of the order is dropped. Then the line is served.
@@ -45,14 +39,16 @@ pub fn first(
 {
     let mut line = [0u8; 320];
     let mut tail: usize = 0;
-    let mut left = opens;
     let mut at: usize = 0;
     let mut now = tally;
-    let mut slot = slots;
-    let mut given = numbers::wide16(last.0);
-    while 0 < left {
-        let id = given + 1;
-        number[slot] = id as u16;
+    let mut front = Front {
+        slot: slots,
+        given: numbers::wide16(last.0),
+        left: opens,
+    };
+    while 0 < front.left {
+        let slot = front.slot;
+        number[slot] = new_slots::next_number(front);
         let w = walks::seek(
             owner,
             plan,
@@ -73,20 +69,13 @@ pub fn first(
         now = w.tally;
         if moves::held(ints, exts, slot) == 0 {
             number[slot] = 0;
-            return Passed {
-                at,
-                tally: now,
-                slots: slot,
-                last: SlotId(id as u16),
-            };
+            return new_slots::dropped(front, at, now);
         }
         if !meeting::full(ints, exts, slot, fixed.height) {
             line[tail] = slot as u8;
             tail += 1;
         }
-        slot += 1;
-        given = id;
-        left -= 1;
+        front = new_slots::onward(front);
     }
     let w = serving::serve(
         owner,
@@ -109,7 +98,7 @@ pub fn first(
     Passed {
         at: w.at,
         tally: served,
-        slots: slot,
-        last: SlotId(given as u16),
+        slots: front.slot,
+        last: SlotId(front.given as u16),
     }
 }

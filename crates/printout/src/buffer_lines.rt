@@ -1,6 +1,6 @@
 // The lines of the buffer: what it holds, and the queue of each account in order.
 ghost use Rattle.lintelsong.specs.Closed.{GoodBuffer};
-use buffers::buffer::Counts;
+use buffer_reads::Counts;
 use lintelsong::Buffer;
 use numbers::Place;
 use pages::out;

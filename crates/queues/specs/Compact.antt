@@ -1,5 +1,6 @@
 -- Columns packed: messages that are gone leave no row, accounts that are gone no place. `seats` says of each place which one it becomes, or
 -- that it goes, by a mark that is no place. A removal packs so, and so does the end of a fill. Assumes nothing.
+use mathlib.Core.Path.{_≡_}
 use mathlib.Core.Bool.{Bool, cond, not, _&&_}
 use mathlib.Core.List.{List}
 use Prim.Native.Nat.{ℕ, _+_, _-_, _/_}
@@ -40,6 +41,11 @@ packedC n a seats owner c = record {
 
 unfoldable pub compactC : (n a : ℕ) (seats : List ℕ) → Cols → Cols
 compactC n a seats c = packedC n a seats (movedC n seats (c .owner)) c
+
+-- columns packed by their seats, and how many messages are left
+pub record Compacted (n a : ℕ) (seats : List ℕ) (c₀ c : Cols) (r : ℕ) : Type 0 where
+  pub cols : c ≡ compactC n a seats c₀
+  pub count : r ≡ rank (held (movedC n seats (c₀ .owner))) n
 
 -- ---- a removal
 

@@ -9,8 +9,8 @@ pub fn queued(owner: &[u16], n: usize, accounts: &[u8], a: usize, x: &[u8; 32]) 
     requires { ⌜ (n ≤ length (now owner)) × (32 * a ≤ length (now accounts)) × (a ≤ 256) × (length (now x) ≡ 32) ⌝ }
     ensures { λ r. ⌜ r ≡ ownedBy (now (owner .entry)) n (seatOf (now (accounts .entry)) a (now (x .entry))) ⌝ }
 {
-    let seat = columns::find_row(accounts, a, x);
-    columns::count_owned(owner, n, seat as u16)
+    let seat = rows::find_row(accounts, a, x);
+    packing::count_owned(owner, n, seat as u16)
 }
 
 // The row of the k-th message of place p among the first n; n if it has no such message.

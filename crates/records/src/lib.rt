@@ -35,8 +35,8 @@ pub fn message_at(
     requires { ⌜ HasRow i (length (now kind)) (length (now form)) (length (now time)) (length (now address)) (length (now hash)) ⌝ }
     ensures { λ r. ⌜ r ≡ messageAt (now (kind .entry)) (now (form .entry)) (now (time .entry)) (now (address .entry)) (now (hash .entry)) i ⌝ }
 {
-    let to = columns::get_row(address, i);
-    let hashed = columns::get_row(hash, i);
+    let to = rows::get_row(address, i);
+    let hashed = rows::get_row(hash, i);
     let f = form_of(form[i]);
     Message {
         kind: kind[i],

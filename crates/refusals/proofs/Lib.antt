@@ -1,2 +1,1 @@
--- What the loops of the tests keep.
-pub mod Looks
+-- No law of its own: the tests say it all.

@@ -1,57 +1,18 @@
 -- Codes 9 to 13 of a fill, the lowest that fits, as one expression over the columns. Assumes nothing.
 use mathlib.Core.Path.{_≡_}
-use mathlib.Core.Bool.{Bool, cond, not, _&&_, _||_}
+use mathlib.Core.Bool.{cond}
 use mathlib.Core.List.{List}
-use Prim.Native.Nat.{ℕ, _+_, _-_, _/_, _≤_, min}
-use lib.Dec.{eqb, ltb}
+use Prim.Native.Nat.{ℕ, _-_, _≤_}
+use lib.Dec.{ltb}
 use lib.ListN.{length, getD, take}
-use Rattle.rules.specs.World.{some-of, joined}
-use Rattle.columns.specs.Lists.{countI}
+use Rattle.rules.specs.World.{joined}
 use Rattle.buckets.specs.Cells.{index, GoodBuckets}
-use Rattle.meaning.specs.Passes.{positionFrom}
 use Rattle.message.specs.declared.Code.{Code}
 use Rattle.message.specs.declared.Code.the-variants.{Done, TooLarge, FewKeys, ManySkips, NumbersUsedUp, Overfull}
-
--- as many rows as all lent columns have: a name is 32 bytes
-abbrev pub rowsIn : (names verdicts costs : ℕ) → ℕ
-rowsIn names verdicts costs = min (min (names / 32) verdicts) costs
-
--- a hash is 32 bytes
-abbrev pub keyRows : (lts hashes : ℕ) → ℕ
-keyRows lts hashes = min lts (hashes / 32)
-
--- how many of n rows say skip
-abbrev pub skipsIn : ℕ → List ℕ → ℕ
-skipsIn n verdicts = countI (λ i v. not (eqb v 0)) n 0 verdicts
-
--- "slots asked for above S, or height above 16"
-unfoldable pub tooLarge : (asked height most : ℕ) → Bool
-tooLarge asked height most = ltb most asked || ltb 16 height
-
--- "more than 256 skip rows, or skipped set size plus rows saying skip (repeats included) above 512"
-unfoldable pub manySkips : (rows : ℕ) (verdicts : List ℕ) (held : ℕ) → Bool
-manySkips rows verdicts held = ltb 256 rows || ltb 512 (held + skipsIn rows verdicts)
-
--- how many messages the slot numbered x holds, 0 if there is none
-unfoldable pub heldOf : (number ints exts : List ℕ) (slots x : ℕ) → ℕ
-heldOf number ints exts slots x =
-    let at = positionFrom number x slots 0 in
-    cond (ltb at slots) (getD ints at 0 + getD exts at 0) 0
-
--- "a bucket below the height lists a slot of more than the height"
-unfoldable pub someAbove : (height : ℕ) (number ints exts : List ℕ) (slots : ℕ) → List ℕ → Bool
-someAbove height number ints exts slots listed = some-of (λ x. ltb height (heldOf number ints exts slots x)) listed
-
-unfoldable pub usedUp : (opens last : ℕ) → Bool
-usedUp opens last = ltb 0 opens && ltb 65535 (last + opens)
+use Rattle.limits.specs.Limits.{tooLarge, manySkips, usedUp}
+use Rattle.over_height.specs.Heights.{someAbove}
 
 -- what the tests read
-pub record MayLook (number : List ℕ) (slots : ℕ) (listed : List ℕ) (count : ℕ) : Type 0 where
-  pub number-long : length number ≡ 64
-  pub few : slots ≤ 64
-  pub listed-long : length listed ≡ 1024
-  pub fits : count ≤ 1024
-
 pub record MayDecide (rows : ℕ) (verdicts : List ℕ) (held : ℕ) (numbers number ints exts buckets numbers2 : List ℕ) : Type 0 where
   pub rows-fit : rows ≤ length verdicts
   pub held-fits : held ≤ 512

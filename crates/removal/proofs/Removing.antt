@@ -1,43 +1,22 @@
 -- What a removal asks of well-formed columns, and how the contracts of its calls make its answer: `refused` if an account that goes holds an
 -- external, `removed` if none does. Assumes nothing.
 use mathlib.Core.Path.{_≡_, ap, _∙_}
-use mathlib.Core.Bool.{Bool, not}
 use mathlib.Core.List.{List, []}
 use Prim.Native.Nat.{ℕ, _*_, _/_, _≤_}
 use native.Mathlib.Nat.{div-add-mod'}
 use native.Mathlib.Omega.{arith}
-use lib.ListN.{length, replicate}
+use lib.ListN.{replicate}
 use borrow.Author.Tests.{eq-eqb, ne-eqb}
-use Rattle.columns.proofs.Scans.{length-mapI}
-use Rattle.columns.proofs.Gathers.{rank-le}
-use Rattle.columns.proofs.PackedRows.{length-packed-rows}
-use Rattle.columns.specs.Laid.{held}
 use Rattle.index.specs.Names.{indexedBy}
 use Rattle.message.specs.declared.Code.the-variants.{Done, HoldsExternal}
 use Rattle.queues.specs.Cols.{Cols, number, withNumbers}
 use Rattle.queues.specs.Indexed.{indexedC}
 use Rattle.queues.specs.Good.{Long, Good}
 use Rattle.queues.specs.Append.{left}
-use Rattle.queues.specs.Compact.{gone, packedC, compactC, seatsC, lostExternals, leftNumbers, goesC, seatsOf, removedC, removeC}
-use Rattle.removal.specs.Seats.{Seated, Owned, Compacted}
-use Rattle.removal.proofs.Seating.{seatFor}
+use Rattle.queues.specs.Compact.{gone, packedC, compactC, Compacted, lostExternals, leftNumbers, goesC, seatsOf, removedC, removeC}
+use Rattle.leaving.specs.Seats.{Seated}
 
 module _ (c : Cols) (g : Good c) where
-  pub few : number c 2 ≤ 1024
-  few = omega (arith, g .now .messages, g .M·high)
-
-  pub seated : number c 3 ≤ 256
-  seated = omega (arith, g .now .places, g .A·high)
-
-  pub owned : (seats : ℕ) → seats ≡ 256 → Owned (number c 2) (c .owner) (length (c .kind)) seats
-  owned seats e = record {
-    few = few;
-    rows = g .lengths .owner;
-    kinds = g .lengths .kind;
-    table = e;
-    owners = λ i l. omega (arith, g .now .placed i l, seated);
-  }
-
   -- the numbers are not packed
   pub long : Long (withNumbers [] c)
   long =
@@ -55,20 +34,6 @@ module _ (c : Cols) (g : Good c) where
 -- the whole names lie in the list
 pub whole : (l : ℕ) → 32 * (l / 32) ≤ l
 whole l = omega (arith, div-add-mod' l 32)
-
--- the seats keep their number
-pub length-seated : {goes : ℕ → Bool} {a : ℕ} {seats₀ seats : List ℕ} {r : ℕ} → Seated goes a seats₀ seats r → length seats ≡ length seats₀
-unfolding seatsC
-length-seated {goes} {a} {seats₀} s = ap length (s .seats) ∙ length-mapI (seatFor goes) a 0 seats₀
-
--- no more accounts stay than there were, and the packing keeps their column's length: the index of those that stay can be made
-pub indexable : {goes : ℕ → Bool} {n a : ℕ} {seats₀ seats : List ℕ} {stay : ℕ} {c₀ c₁ : Cols} {r : ℕ} → a ≤ 256 → length (c₀ .accounts) ≡ 16384
-    → Seated goes a seats₀ seats stay → Compacted n a seats c₀ c₁ r → (32 * stay ≤ length (c₁ .accounts)) × (stay ≤ 256)
-unfolding compactC packedC
-indexable {goes} {n} {a} {seats₀} {seats} {stay} {c₀} {c₁} few long seat done =
-    let low : stay ≤ 256 = omega (arith, seat .stay, rank-le (λ p. not (goes p)) a) in
-    let same = ap (λ (x : Cols). length (x .accounts)) (done .cols) ∙ length-packed-rows (held seats) a 512 (c₀ .accounts) (omega arith) (omega arith) in
-    (omega (arith, same), low)
 
 module _ (names : List ℕ) (c : Cols) (seats : List ℕ) (stay lost : ℕ) (seat : Seated (goesC names c) (number c 3) (replicate 256 gone) seats stay)
     (count : lost ≡ lostExternals seats (c .kind) (number c 2) (c .owner)) where

@@ -1,5 +1,3 @@
--- The laws that the proofs of the functions share.
+-- The laws that the code of the end and the theorems about it share.
 pub mod Copying
-pub mod Seats
-pub mod KeyRows
-pub mod Settling
+pub mod Counts

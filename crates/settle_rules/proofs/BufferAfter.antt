@@ -32,7 +32,7 @@ use Rattle.queues.proofs.Indexing.{live-indexed, meant-indexed}
 use Rattle.queues.specs.Compact.{gone, movedC, compactC, seatsC}
 use Rattle.settle.proofs.Copying.{gathered}
 use Rattle.settle.specs.Ends.{emptied, leftCounts, withOwners, seatsLeft, settledC, filledBy, holders, filledC}
-use Rattle.settle.proofs.Settling.{counts-long}
+use Rattle.settle.proofs.Counts.{counts-long}
 use Rattle.moves.specs.declared.Fixed.{Fixed}
 use Rattle.meaning.specs.Meaning.{Numbers, Columns, Setting, row, orderRow, stateOf}
 use Rattle.renaming.specs.Renaming.{Renaming, onRow, onBuffer}

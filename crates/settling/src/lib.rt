@@ -35,10 +35,10 @@ fn take_rows(
         (messages (now (owner2 .exit)) (now (kind2 .exit)) (now (form2 .exit)) (now (time2 .exit)) (now (address2 .exit)) (now (hash2 .exit))) ⌝ }
 {
     let mut seat = [0u16; 1280];
-    settle::seat_members(member, members, &mut seat);
-    settle::collect_owners(left, taken, n, &seat, owner2, at);
-    settle::collect_fields(taken, n, kind, form, time, kind2, form2, time2, at);
-    settle::collect_bodies(taken, n, address, hash, address2, hash2, at);
+    collecting::seat_members(member, members, &mut seat);
+    collecting::collect_owners(left, taken, n, &seat, owner2, at);
+    collecting::collect_fields(taken, n, kind, form, time, kind2, form2, time2, at);
+    collecting::collect_bodies(taken, n, address, hash, address2, hash2, at);
 }
 
 // The slots have the numbers and counts that the run left, and the index follows them.
@@ -127,7 +127,7 @@ fn settle_group(
         address2,
         hash2,
     );
-    settle::enter(
+    collecting::enter(
         &member,
         first,
         members - first,
@@ -150,7 +150,7 @@ fn settle_group(
         buckets2,
     );
     let last = done.last;
-    settle::count_in(
+    collecting::count_in(
         done.slots,
         members,
         n,
@@ -181,9 +181,9 @@ fn tell(
     let tally = done.tally;
     let taken = run.taken;
     let joined = run.joined;
-    let ints = settle::keys(&taken, tally.taken, kind, time, hash, lts, hashes);
+    let ints = telling::keys(&taken, tally.taken, kind, time, hash, lts, hashes);
     let k = *held;
-    settle::join_set(&joined, tally.joined, accounts, accounts2, set, k);
+    telling::join_set(&joined, tally.joined, accounts, accounts2, set, k);
     *held = k + tally.joined;
     ints
 }
@@ -259,7 +259,7 @@ pub fn settle(
     );
     let run = done.left;
     let left = run.owner;
-    settle::settle_buffer(
+    buffer_end::settle_buffer(
         &left,
         owner,
         kind,

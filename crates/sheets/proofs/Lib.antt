@@ -1,7 +1,4 @@
 -- The proofs of the functions, and the laws that they cite.
-pub mod Telling
-pub mod Adding
-pub mod Laying
 pub mod Filling
 pub mod Tables
 pub mod Playing

@@ -9,18 +9,19 @@ use Rattle.rules.specs.World.{Skip, leastRead}
 use Rattle.rules.specs.Calls.{Store}
 use Rattle.message.specs.Real.{Real}
 use Rattle.queues.specs.Meant.{meant}
-use Rattle.buffers.specs.declared.buffer.Counts.{Counts}
-use Rattle.buffers.specs.Buffers.{countsOf}
+use Rattle.buffer_reads.specs.declared.Counts.{Counts}
+use Rattle.buffer_reads.specs.Shown.{countsOf}
 use Rattle.display.specs.Pieces.{Puts}
 use Rattle.display.proofs.Pieces.{puts-then}
 use Rattle.lintelsong.specs.Closed.{colsOf}
 use Rattle.text.specs.declared.sheet.Parsed.{Parsed}
 use Rattle.answers.specs.Answer.{brokenLine, leftLine}
-use Rattle.sheets.specs.declared.State.{State}
-use Rattle.sheets.specs.declared.Reached.{Reached}
-use Rattle.sheets.specs.Answer.{Held, fresh, adds, skipsAt, fills, leftOf, played, playLines, answerTo}
-use Rattle.sheets.specs.Steps.{meantBy, Tells}
-use Rattle.sheets.proofs.Telling.{puts-wider, tells-then}
+use Rattle.sheet_adds.specs.declared.State.{State}
+use Rattle.sheet_adds.specs.declared.Reached.{Reached}
+use Rattle.sheet_rows.specs.Answer.{Held, fresh, adds, skipsAt, fills, leftOf, played, playLines, answerTo}
+use Rattle.sheet_adds.specs.Steps.{meantBy, Tells}
+use Rattle.answers.proofs.Lines.{puts-wider}
+use Rattle.sheet_adds.proofs.Telling.{tells-then}
 
 -- the last line, of what the counts of a buffer are
 pub left-told : (s : Store Real) {k : Counts} {m : ℕ} {at r : ℕ} {out after : List ℕ} → k ≡ countsOf s → m ≡ leastRead (s .now .least)

@@ -1,3 +1,2 @@
--- What the contracts of sheets cite: what a sheet is answered by (Answer), and what each step leaves (Steps).
-pub mod Answer
+-- What the contracts of sheets cite beside what a sheet is answered by (crate sheet_rows).
 pub mod Steps

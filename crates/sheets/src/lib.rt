@@ -1,5 +1,4 @@
 // A sheet answered: it is read, its messages are added, its fills are done, and the lines of its answer are put into what is lent.
-ghost use mathlib.Core.Path.{_≡_};
 ghost use Prim.Native.Nat.{_+_, _≤_};
 ghost use lib.ListN.{length};
 ghost use Rattle.display.specs.Pieces.{Puts};
@@ -7,46 +6,13 @@ ghost use Rattle.lintelsong.specs.Closed.{colsOf, GoodBuffer};
 ghost use Rattle.queues.specs.Meant.{meant};
 ghost use Rattle.sheet_rules.specs.Sheet.{read};
 ghost use Rattle.text.specs.Steps.{laidOut};
-ghost use Rattle.sheets.specs.Answer.{fresh as freshHeld, leftOf, playLines, answerTo};
-ghost use Rattle.sheets.specs.Steps.{meantBy, GoodState, Tabled};
+ghost use Rattle.sheet_rows.specs.Answer.{leftOf, playLines, answerTo};
+ghost use Rattle.sheets.specs.Steps.{Tabled};
 
-pub mod adds;
 pub mod runs;
-pub mod skips;
 
 use lintelsong::Buffer;
-use lintelsong::Group;
-use lintelsong::Skipped;
 use text::sheet::Parsed;
-
-// What a sheet works on.
-pub struct State {
-    pub buffer: Buffer,
-    pub group: Group,
-    pub skipped: Skipped,
-}
-
-// What a part of a sheet leaves, and where its lines end.
-pub struct Reached {
-    pub state: State,
-    pub at: usize,
-}
-
-// The start: room for 256 messages of 64 accounts and for 16 slots, and an empty set.
-fn fresh() -> State
-    ensures { λ r. ⌜ GoodState r × (meantBy r ≡ freshHeld) ⌝ }
-{
-    let b = Buffer::set_up(256, 64);
-    let buffer = b.buffer;
-    let g = Group::set_up(16);
-    let group = g.group;
-    let skipped = Skipped::fresh();
-    State {
-        buffer,
-        group,
-        skipped,
-    }
-}
 
 // The last line: what the buffer holds, and its minimum.
 fn put_left(b: Buffer, out: &mut [u8], at: usize) -> usize
@@ -55,7 +21,7 @@ fn put_left(b: Buffer, out: &mut [u8], at: usize) -> usize
 {
     let held = b.counts();
     let least = b.min_ext_chain_time();
-    answers::put_left(out, at, held.ints, held.exts, held.accounts, least)
+    tally_lines::put_left(out, at, held.ints, held.exts, held.accounts, least)
 }
 
 // The answer to a sheet without a broken line: 51 bytes for a message at the most, 247 for a fill, 110 for the last line.
@@ -63,11 +29,11 @@ fn play(p: Parsed, out: &mut [u8]) -> usize
     requires { ⌜ Tabled p × (42030 ≤ length (now out)) ⌝ }
     ensures { λ r. ⌜ Puts (playLines p) 42030 0 (now (out .entry)) (now (out .exit)) r ⌝ }
 {
-    let start = fresh();
+    let start = sheet_adds::fresh();
     let message = p.message;
-    let added = adds::all(start, &message, p.messages, out, 0);
+    let added = sheet_adds::all(start, &message, p.messages, out, 0);
     let skip = p.skip;
-    let rows = skips::rows_of(&skip, p.skips);
+    let rows = sheet_fills::skips::rows_of(&skip, p.skips);
     let fill = p.fill;
     let filled = runs::all(added.state, rows, &fill, p.fills, out, added.at);
     let last = filled.state;

@@ -43,7 +43,7 @@ impl Skipped {
         let accounts = self.accounts;
         let held = self.held;
         let x = name;
-        columns::find_row(&accounts, held, &x) < held
+        rows::find_row(&accounts, held, &x) < held
     }
 
     // The account at a position, in the order in which they joined; none past the end.
@@ -56,7 +56,7 @@ impl Skipped {
         if position < held {
             return SeenAccount {
                 found: true,
-                account: columns::get_row(&accounts, position),
+                account: rows::get_row(&accounts, position),
             };
         }
         SeenAccount {

@@ -1,4 +1,2 @@
--- The steps of reading.
-pub mod Words
-pub mod Loops
+-- A sheet from its sections.
 pub mod Sections

@@ -1,2 +1,2 @@
--- What the contracts of text cite: what the steps of reading leave.
+-- What the contracts of text cite: a reading laid out in tables.
 pub mod Steps

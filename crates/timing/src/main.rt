@@ -9,7 +9,7 @@ ghost use Rattle.timing.specs.Fills.{GoodAnswer};
 mod load;
 mod wish;
 
-use filling::Asked;
+use fill_answer::Asked;
 use lintelsong::Buffer;
 use lintelsong::Group;
 use lintelsong::Skipped;

@@ -5,23 +5,27 @@ use mathlib.Core.Logic.{⊎-elim, inl, inr}
 use mathlib.Core.List.{List, []}
 use Prim.Native.Nat.{ℕ, _*_, _≤_}
 use native.Mathlib.Omega.{arith}
-use lib.ListN.{length, set, replicate, length-set, length-replicate}
+use lib.ListN.{length, set, replicate, length-replicate}
 use lib.Dec.{eqb}
 use mir.Syntax.{w64}
 use mir.Val.{Fits}
-use borrow.Author.Tests.{eq-eqb, ne-eqb}
+use borrow.Author.Tests.{eqb-false}
 use Rattle.numbers.proofs.Bytes.{byBool}
 use Rattle.columns.specs.Laid.{Copies}
 use Rattle.columns.proofs.Laid.{length-laid}
 use Rattle.index.specs.Names.{indexedBy}
 use Rattle.message.specs.declared.Code.{Code}
 use Rattle.message.specs.declared.Code.the-variants.{Done, NoTransaction, InTransaction}
+use Rattle.message.specs.Answers.{number as numberOf}
 use Rattle.queues.specs.Cols.{Cols, number, withNumbers}
 use Rattle.queues.specs.Indexed.{indexedC}
 use Rattle.queues.specs.Good.{Long, Good}
 use Rattle.queues.specs.Append.{left}
 use Rattle.queues.specs.Transact.{copied, cleared, copiedC, clearedC, begunC, committedC, rolledC, beginC, commitC, rollbackC}
 use Rattle.queues.proofs.Copied.{length-copied}
+use Rattle.keeping.specs.declared.Extent.{Extent}
+use Rattle.keeping.specs.Marks.{beginCode, endCode, heldOf, keptOf}
+use Rattle.keeping.proofs.Codes.{begins, begun-already, ends, none-to-end}
 use Rattle.transactions.specs.Halves.{Halves, Commits}
 
 -- ---- what the copies between the halves need
@@ -99,61 +103,80 @@ long-cleared n a c x e l m long =
 
 -- no more than what is held now, and no more than what was held at begin while a transaction is open
 module _ (c : Cols) (good : Good c) where
-  pub held-few : (number c 2 ≤ 1024) × (number c 3 ≤ 256)
-  held-few = (omega (arith, good .now .messages, good .M·high), omega (arith, good .now .places, good .A·high))
+  pub held-few : (h : Extent) → h ≡ heldOf (c .numbers) → (h .messages ≤ 1024) × (h .places ≤ 256)
+  held-few h e = (
+    omega (arith, ap (λ (x : Extent). x .messages) e, good .now .messages, good .M·high),
+    omega (arith, ap (λ (x : Extent). x .places) e, good .now .places, good .A·high),
+  )
 
-  pub kept-few : (number c 8 ≡ 0 → ⊥) → (number c 9 ≤ 1024) × (number c 10 ≤ 256)
-  kept-few z =
-      let kept = good .then (omega (arith, z, good .opened)) in
-      (omega (arith, kept .messages, good .M·high), omega (arith, kept .places, good .A·high))
+  pub kept-few : (b : Extent) → b ≡ keptOf (c .numbers) → (k : Code) → k ≡ endCode (number c 8) → numberOf k ≡ 0 → (b .messages ≤ 1024) × (b .places ≤ 256)
+  kept-few b e k m d =
+      let kept = good .then (omega (arith, eqb-false (number c 8) 0 (ends (number c 8) m d), good .opened)) in (
+        omega (arith, ap (λ (x : Extent). x .messages) e, kept .messages, good .M·high),
+        omega (arith, ap (λ (x : Extent). x .places) e, kept .places, good .A·high),
+      )
 
-  pub long-again : (x : Cols) → x ≡ clearedC (number c 2) (number c 3) (withNumbers [] c) → Long x
-  long-again x e = long-cleared (number c 2) (number c 3) (withNumbers [] c) x e (held-few .0) (held-few .1) (long-any c [] (good .lengths))
+  pub long-again : (h : Extent) → h ≡ heldOf (c .numbers) → (x : Cols) → x ≡ clearedC (h .messages) (h .places) (withNumbers [] c) → Long x
+  long-again h e x f = long-cleared (h .messages) (h .places) (withNumbers [] c) x f (held-few h e .0) (held-few h e .1) (long-any c [] (good .lengths))
 
-  pub down : {n a : ℕ} → n ≤ number c 2 → a ≤ number c 3 → Halves 0 1024 0 256 n a
-  down l m = record { messages = omega (arith, held-few); accounts = omega (arith, held-few); rows = inl (refl, refl); places = inl (refl, refl) }
+  pub down : (h : Extent) → h ≡ heldOf (c .numbers) → Halves 0 1024 0 256 (h .messages) (h .places)
+  down h e = record { messages = held-few h e .0; accounts = held-few h e .1; rows = inl (refl, refl); places = inl (refl, refl) }
 
-  pub up : {n a : ℕ} → (number c 8 ≡ 0 → ⊥) → n ≤ number c 9 → a ≤ number c 10 → Halves 1024 0 256 0 n a
-  up z l m = record { messages = omega (arith, kept-few z); accounts = omega (arith, kept-few z); rows = inr (refl, refl); places = inr (refl, refl) }
+  pub up : (b : Extent) → b ≡ keptOf (c .numbers) → (k : Code) → k ≡ endCode (number c 8) → numberOf k ≡ 0 → Halves 1024 0 256 0 (b .messages) (b .places)
+  up b e k m d = record { messages = kept-few b e k m d .0; accounts = kept-few b e k m d .1; rows = inr (refl, refl); places = inr (refl, refl) }
 
   -- what was copied back can be indexed
-  pub rebuildable : (x y : Cols) (ns : List ℕ) → (number c 8 ≡ 0 → ⊥) → x ≡ clearedC (number c 2) (number c 3) (withNumbers [] c)
-      → y ≡ copiedC 1024 0 256 0 (number c 9) (number c 10) x → ns ≡ copied 9 2 6 (c .numbers)
-      → (32 * number c 10 ≤ length (y .accounts)) × (number c 10 ≤ 256) × (length (set ns 8 0) ≡ 528)
+  pub rebuildable : (h b : Extent) (x y : Cols) → h ≡ heldOf (c .numbers) → b ≡ keptOf (c .numbers)
+      → (k : Code) → k ≡ endCode (number c 8) → numberOf k ≡ 0
+      → x ≡ clearedC (h .messages) (h .places) (withNumbers [] c) → y ≡ copiedC 1024 0 256 0 (b .messages) (b .places) x
+      → (32 * number c 10 ≤ length (y .accounts)) × (number c 10 ≤ 256) × (length (c .numbers) ≡ 528)
   unfolding copiedC
-  rebuildable x y ns z e f g =
-      let few = kept-few z .1 in
-      let long = long-again x e .accounts in
-      let same = ap (λ (w : Cols). length (w .accounts)) f ∙ length-copied (32 * 256) (32 * 0) (32 * number c 10) (x .accounts) (omega arith) (omega arith) in (
-        omega arith,
-        few,
-        length-set ns 8 0 ∙ ap length g ∙ length-copied 9 2 6 (c .numbers) (omega (arith, good .many)) (omega (arith, good .many)) ∙ good .many,
-      )
+  rebuildable h b x y e l k m d f g =
+      let few = kept-few b l k m d .1 in
+      let long = long-again h e x f .accounts in
+      let same = ap (λ (w : Cols). length (w .accounts)) g ∙ length-copied (32 * 256) (32 * 0) (32 * b .places) (x .accounts) (omega arith) (omega arith) in
+      let places = ap (λ (w : Extent). w .places) l in
+      (omega arith, omega arith, good .many)
 
 -- ---- the calls' answers
 
-pub begin-open : (c : Cols) → (number c 8 ≡ 0 → ⊥) → left InTransaction c ≡ beginC c
+pub begin-refused : (c : Cols) (k : Code) → k ≡ beginCode (number c 8) → (numberOf k ≡ 0 → ⊥) → left k c ≡ beginC c
 unfolding beginC
-begin-open c z = rw (ne-eqb _ _ z)
+begin-refused c k e d =
+    let f = begun-already (number c 8) e d in
+    let code : k ≡ InTransaction = rw f at e in
+    rw f (ap (λ (x : Code). left x c) code)
 
-pub begin-done : (c x : Cols) (ns : List ℕ) → number c 8 ≡ 0 → x ≡ copiedC 0 1024 0 256 (number c 2) (number c 3) (withNumbers [] c)
-    → ns ≡ copied 2 9 6 (c .numbers) → left Done (withNumbers (set ns 8 1) x) ≡ beginC c
+pub begin-done : (c x : Cols) (k : Code) (h : Extent) (ns : List ℕ) → k ≡ beginCode (number c 8) → numberOf k ≡ 0 → h ≡ heldOf (c .numbers)
+    → x ≡ copiedC 0 1024 0 256 (h .messages) (h .places) (withNumbers [] c) → ns ≡ set (copied 2 9 6 (c .numbers)) 8 1
+    → left k (withNumbers ns x) ≡ beginC c
 unfolding beginC begunC copiedC
-begin-done c x ns z e f = rw (eq-eqb _ _ z) (λ i. left Done (withNumbers (set (f i) 8 1) (e i)))
+begin-done c x k h ns e d l f g =
+    let t = begins (number c 8) e d in
+    let code : k ≡ Done = rw t at e in
+    let whole = f ∙ ap (λ (y : Extent). copiedC 0 1024 0 256 (y .messages) (y .places) (withNumbers [] c)) l in
+    rw t (λ i. left (code i) (withNumbers (g i) (whole i)))
 
-pub rollback-none : (c : Cols) → number c 8 ≡ 0 → left NoTransaction c ≡ rollbackC c
+pub rollback-refused : (c : Cols) (k : Code) → k ≡ endCode (number c 8) → (numberOf k ≡ 0 → ⊥) → left k c ≡ rollbackC c
 unfolding rollbackC
-rollback-none c z = rw (eq-eqb _ _ z)
+rollback-refused c k e d =
+    let t = none-to-end (number c 8) e d in
+    let code : k ≡ NoTransaction = rw t at e in
+    rw t (ap (λ (x : Code). left x c) code)
 
-pub rollback-done : (c x y : Cols) (ns : List ℕ) → (number c 8 ≡ 0 → ⊥) → x ≡ clearedC (number c 2) (number c 3) (withNumbers [] c)
-    → y ≡ copiedC 1024 0 256 0 (number c 9) (number c 10) x → ns ≡ copied 9 2 6 (c .numbers)
-    → (made : List ℕ) → made ≡ indexedBy (number c 10) (y .accounts) (set ns 8 0) → left Done (withNumbers made y) ≡ rollbackC c
+pub rollback-done : (c x y : Cols) (k : Code) (h b : Extent) (ns : List ℕ) → k ≡ endCode (number c 8) → numberOf k ≡ 0
+    → h ≡ heldOf (c .numbers) → b ≡ keptOf (c .numbers) → x ≡ clearedC (h .messages) (h .places) (withNumbers [] c)
+    → y ≡ copiedC 1024 0 256 0 (b .messages) (b .places) x
+    → ns ≡ indexedBy (number c 10) (y .accounts) (set (copied 9 2 6 (c .numbers)) 8 0) → left k (withNumbers ns y) ≡ rollbackC c
 unfolding rollbackC rolledC indexedC copiedC clearedC
-rollback-done c x y ns z e f g made h =
-    let whole = f ∙ ap (copiedC 1024 0 256 0 (number c 9) (number c 10)) e in
-    rw (ne-eqb _ _ z)
-    ((λ i. left Done (withNumbers (h i) y))
-    ∙ (λ i. left Done (withNumbers (indexedBy (number c 10) (whole i .accounts) (set (g i) 8 0)) (whole i))))
+rollback-done c x y k h b ns e d l m f g n =
+    let z = ends (number c 8) e d in
+    let code : k ≡ Done = rw z at e in
+    let fresh = f ∙ ap (λ (w : Extent). clearedC (w .messages) (w .places) (withNumbers [] c)) l in
+    let whole = g ∙ (λ i. copiedC 1024 0 256 0 (m i .messages) (m i .places) (fresh i)) in
+    rw z
+    ((λ i. left (code i) (withNumbers (n i) y))
+    ∙ (λ i. left Done (withNumbers (indexedBy (number c 10) (whole i .accounts) (set (copied 9 2 6 (c .numbers)) 8 0)) (whole i))))
 
 -- what a commit leaves of the numbers, said of the columns
 pub commit-columns : (c : Cols) (r : Code) (ns : List ℕ) → Commits r (c .numbers) ns → left r (withNumbers ns c) ≡ commitC c

@@ -37,13 +37,13 @@ fn copy_half(
 {
     let f = from.row;
     let t = to.row;
-    columns::copy_shorts(owner, f, t, n);
-    columns::copy_bytes(kind, f, t, n);
-    columns::copy_bytes(form, f, t, n);
-    columns::copy_words(time, f, t, n);
-    columns::copy_bytes(address, 32 * f, 32 * t, 32 * n);
-    columns::copy_bytes(hash, 32 * f, 32 * t, 32 * n);
-    columns::copy_bytes(accounts, 32 * from.place, 32 * to.place, 32 * a);
+    cells::copy_shorts(owner, f, t, n);
+    cells::copy_bytes(kind, f, t, n);
+    cells::copy_bytes(form, f, t, n);
+    cells::copy_words(time, f, t, n);
+    cells::copy_bytes(address, 32 * f, 32 * t, 32 * n);
+    cells::copy_bytes(hash, 32 * f, 32 * t, 32 * n);
+    cells::copy_bytes(accounts, 32 * from.place, 32 * to.place, 32 * a);
 }
 
 // Makes the rows of n messages and a accounts fresh.
@@ -62,13 +62,13 @@ fn clear_half(
     requires { ⌜ Long (cols (now owner) (now kind) (now form) (now time) (now address) (now hash) (now accounts) []) ⌝ }
     ensures { λ _. ⌜ (cols (now (owner .exit)) (now (kind .exit)) (now (form .exit)) (now (time .exit)) (now (address .exit)) (now (hash .exit)) (now (accounts .exit)) []) ≡ clearedC n a (cols (now (owner .entry)) (now (kind .entry)) (now (form .entry)) (now (time .entry)) (now (address .entry)) (now (hash .entry)) (now (accounts .entry)) []) ⌝ }
 {
-    columns::clear_shorts(owner, 0, n);
-    columns::clear_bytes(kind, 0, n);
-    columns::clear_bytes(form, 0, n);
-    columns::clear_words(time, 0, n);
-    columns::clear_bytes(address, 0, 32 * n);
-    columns::clear_bytes(hash, 0, 32 * n);
-    columns::clear_bytes(accounts, 0, 32 * a);
+    cells::clear_shorts(owner, 0, n);
+    cells::clear_bytes(kind, 0, n);
+    cells::clear_bytes(form, 0, n);
+    cells::clear_words(time, 0, n);
+    cells::clear_bytes(address, 0, 32 * n);
+    cells::clear_bytes(hash, 0, 32 * n);
+    cells::clear_bytes(accounts, 0, 32 * a);
 }
 
 // Copies what is held into the backup room.
@@ -85,30 +85,30 @@ pub fn begin(
     requires { ⌜ Good (cols (now owner) (now kind) (now form) (now time) (now address) (now hash) (now accounts) (now numbers)) ⌝ }
     ensures { λ r. ⌜ left r (cols (now (owner .exit)) (now (kind .exit)) (now (form .exit)) (now (time .exit)) (now (address .exit)) (now (hash .exit)) (now (accounts .exit)) (now (numbers .exit))) ≡ beginC (cols (now (owner .entry)) (now (kind .entry)) (now (form .entry)) (now (time .entry)) (now (address .entry)) (now (hash .entry)) (now (accounts .entry)) (now (numbers .entry))) ⌝ }
 {
-    if numbers[8] != 0 {
-        return Code::InTransaction;
+    let code = keeping::may_begin(numbers);
+    if message::number_of(code) == 0 {
+        let held = keeping::held(numbers);
+        let n = held.messages;
+        let a = held.places;
+        copy_half(
+            Half { row: 0, place: 0 },
+            Half {
+                row: 1024,
+                place: 256,
+            },
+            n,
+            a,
+            owner,
+            kind,
+            form,
+            time,
+            address,
+            hash,
+            accounts,
+        );
+        keeping::keep(numbers);
     }
-    let held = numbers[2] as usize;
-    let seats = numbers[3] as usize;
-    copy_half(
-        Half { row: 0, place: 0 },
-        Half {
-            row: 1024,
-            place: 256,
-        },
-        held,
-        seats,
-        owner,
-        kind,
-        form,
-        time,
-        address,
-        hash,
-        accounts,
-    );
-    columns::copy_words(numbers, 2, 9, 6);
-    numbers[8] = 1;
-    Code::Done
+    code
 }
 
 // Forgets what was held at begin.
@@ -116,12 +116,11 @@ pub fn commit(numbers: &mut [u64; 528]) -> Code
     requires { ⌜ length (now numbers) ≡ 528 ⌝ }
     ensures { λ r. ⌜ Commits r (now (numbers .entry)) (now (numbers .exit)) ⌝ }
 {
-    let open = numbers[8];
-    if open == 0 {
-        return Code::NoTransaction;
+    let code = keeping::may_end(numbers);
+    if message::number_of(code) == 0 {
+        keeping::forget(numbers);
     }
-    numbers[8] = 0; // none is open
-    Code::Done
+    code
 }
 
 // Copies back what was held at begin, into rows made fresh, and makes the index anew.
@@ -138,32 +137,32 @@ pub fn rollback(
     requires { ⌜ Good (cols (now owner) (now kind) (now form) (now time) (now address) (now hash) (now accounts) (now numbers)) ⌝ }
     ensures { λ r. ⌜ left r (cols (now (owner .exit)) (now (kind .exit)) (now (form .exit)) (now (time .exit)) (now (address .exit)) (now (hash .exit)) (now (accounts .exit)) (now (numbers .exit))) ≡ rollbackC (cols (now (owner .entry)) (now (kind .entry)) (now (form .entry)) (now (time .entry)) (now (address .entry)) (now (hash .entry)) (now (accounts .entry)) (now (numbers .entry))) ⌝ }
 {
-    if numbers[8] == 0 {
-        return Code::NoTransaction;
+    let code = keeping::may_end(numbers);
+    if message::number_of(code) == 0 {
+        let held = keeping::held(numbers);
+        let n = held.messages;
+        let a = held.places;
+        clear_half(n, a, owner, kind, form, time, address, hash, accounts);
+        let kept = keeping::kept(numbers);
+        let back = kept.messages;
+        let places = kept.places;
+        copy_half(
+            Half {
+                row: 1024,
+                place: 256,
+            },
+            Half { row: 0, place: 0 },
+            back,
+            places,
+            owner,
+            kind,
+            form,
+            time,
+            address,
+            hash,
+            accounts,
+        );
+        keeping::give_back(accounts, numbers);
     }
-    let n = numbers[2] as usize;
-    let a = numbers[3] as usize;
-    clear_half(n, a, owner, kind, form, time, address, hash, accounts);
-    let kept = numbers[9] as usize;
-    let places = numbers[10] as usize;
-    copy_half(
-        Half {
-            row: 1024,
-            place: 256,
-        },
-        Half { row: 0, place: 0 },
-        kept,
-        places,
-        owner,
-        kind,
-        form,
-        time,
-        address,
-        hash,
-        accounts,
-    );
-    columns::copy_words(numbers, 9, 2, 6);
-    numbers[8] = 0;
-    index::rebuild(accounts, places, numbers);
-    Code::Done
+    code
 }

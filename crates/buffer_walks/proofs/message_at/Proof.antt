@@ -1,29 +1,15 @@
--- `buffer_walks::message_at` meets its contract: the row found holds the message at the position, and the row behind the last says that there is
--- none (proofs/Looks.antt). Assumes nothing.
-use borrow.Author.Needs.{needs}
-use Rattle.queues.specs.Cols.{live}
+-- `buffer_walks::message_at` meets its contract: the row found holds the message at the position (crate buffer_seen, Looks). Assumes nothing.
+use mathlib.Core.Path.{_∙_}
+use Rattle.buffer_seen.proofs.Looks.{message-seen, messages-in}
 use Rattle.buffers.specs.Buffers.{colsOf}
-use Rattle.buffer_walks.proofs.Looks.{message-is, message-missing}
 use Rattle.buffer_walks.proofs.message_at.Statement.{statement}
 use Rattle.buffer_walks.proofs.message_at.Tie as tie
 
-returns : tie.Need-returns
-returns c =
-    let t = c .before .before .before .before .before .before in
-    let d = t .before in
-    let a = d .before .before .before .before .before .before .before .before .before in
-    rw (c .message-at .ensures)
-    (message-is (live (colsOf (a .args .buffer))) (a .pre .now .placed) (a .args .place .0) (a .args .position) (d .row-of .result) (d .row-of .ensures) (t .if1 .taken))
+message-at-requires : tie.Need-message-at-requires
+message-at-requires c κs = let a = c .before .before .before .before .before .before .before .before .before .before .before .before .before .before in let k = colsOf (a .args .buffer) in messages-in k (a .pre)
 
-returns-2 : tie.Need-returns-2
-returns-2 c =
-    let d = c .before .before in
-    let a = d .before .before .before .before .before .before .before .before .before in
-    rw (c .blank .ensures)
-    (message-missing (live (colsOf (a .args .buffer))) (a .pre .now .placed) (a .args .place .0) (a .args .position) (d .row-of .result) (d .row-of .ensures) (c .before .if1 .left))
+returns : tie.Need-returns
+returns c = let a = c .before .before .before .before .before .before .before .before .before .before .before .before .before .before .before in c .message-at .ensures ∙ message-seen (colsOf (a .args .buffer)) (a .pre) (a .args .place .0) (a .args .position)
 
 pub message-at-spec : {M : Type 1} → statement M
-message-at-spec =
-    tie.close
-    (tie.spec (λ c. search needs) (λ c. search needs) (λ c κs. search needs) (λ c. search needs) (λ c. search needs) (λ c. search needs)
-    (λ c. search needs) (λ c. search needs) (λ c κs. search needs) returns (λ c κs. search needs) returns-2)
+message-at-spec = tie.close (tie.spec message-at-requires returns)

@@ -1,5 +1,5 @@
 -- `lintelsong_buffer_account_at` meets its contract: a walk of its code. Each struct is taken apart, what it lends goes to
--- `cores::account_at` for lifetimes of the call and comes back, and the struct is put together. Of the core it knows the contract alone.
+-- `buffer_cores::account_at` for lifetimes of the call and comes back, and the struct is put together. Of the core it knows the contract alone.
 -- Written by tools/walks.py. Assumes nothing.
 use mathlib.Core.Path.{refl, ap}
 use Prim.Native.Nat.{ℕ, _<_, _^_, _+_}
@@ -40,18 +40,19 @@ use denote.Triple.Call.{calls-at}
 use denote.Triple.Clauses.{ensured, lasts}
 use denote.Triple.Table.{entered, cited}
 use denote.Triple.Walked.{says, needs, Stays, stay-ref, stay-none, gave-ref, walkOf, goes-none, goes-ref, goes-gave-ref, Walks, ends-at, walked, walk-meets}
-use Rattle.queues.specs.Cols.{kept}
+use mathlib.Core.Path.{subst}
+use Rattle.message.specs.declared.SeenAccount.{SeenAccount}
+use Rattle.buffer_seen.specs.Lent.{accountFound}
+use Rattle.buffer_seen.proofs.Looks.{account-seen, accounts-in}
 use Rattle.export_parts.specs.Parts.{Told}
-use Rattle.export_buffer.specs.Lent.{foundAccount}
 use Rattle.export_buffer.specs.Held.{colsOf, GoodBuffer}
-use Rattle.export_buffer.proofs.Answers.{account-seen, places-in}
 use Rattle.export_buffer.specs.declared.Buffer.{Buffer}
 use Rattle.export_buffer.proofs.Buffer as Buffer
 use Rattle.export_buffer.proofs.BufferApart.{Back as BufferBack, buffer-apart, buffer-together}
-use Rattle.export_buffer.proofs.cores.account_at as core
-use Rattle.export_buffer.proofs.cores.account_at.Symbol as core-def
-use Rattle.export_buffer.proofs.cores.account_at.Symbol.{name as #core}
-use Rattle.export_buffer.proofs.cores.account_at.Met as core-thm
+use Rattle.buffer_cores.proofs.account_at as core
+use Rattle.buffer_cores.proofs.account_at.Symbol as core-def
+use Rattle.buffer_cores.proofs.account_at.Symbol.{name as #core}
+use Rattle.buffer_cores.proofs.account_at.Met as core-thm
 use Rattle.export_buffer.proofs.lintelsong_buffer_account_at.Key.{name as #export}
 use Rattle.export_buffer.proofs.lintelsong_buffer_account_at as f
 use Rattle.export_buffer.proofs.lintelsong_buffer_account_at.Statement as stated
@@ -98,7 +99,7 @@ module _ {M : Type 1} (𝓤 : URA M) (H : Heap 𝓤) (A : Atoms 𝓤) (W : Given
 
   -- what the core ensures of its answer and of what it was lent
   abbrev Did : ℕ → List ℕ → Type 0
-  Did r out·last = Told r out·last (foundAccount (b .accounts) (b .numbers) place)
+  Did r out·last = Told r out·last (accountFound (b .accounts) (b .numbers) place)
 
   abbrev to-core : Names-b → Core 𝓤 H A at-mem run .Ghost
   to-core n-b = ((((n-b .ν0 ∷ []), ((n-b .ν1 ∷ []), (κ-out, tt))), (fullShare, (fullShare, (q-out, tt))), tt, (x0 (n-b .δ0), (x1 (n-b .δ1), (record { ptr = (b-out, o-out); name = γ-out; now = out }, (place, tt)))), (vptr b-b (o-b + 155648) ∷ [], (vptr b-b (o-b + 172032) ∷ [], (vptr b-out o-out ∷ [], (vint w16 place ∷ [], tt))))), tt)
@@ -132,7 +133,7 @@ module _ {M : Type 1} (𝓤 : URA M) (H : Heap 𝓤) (A : Atoms 𝓤) (W : Given
   goes-to-core : Req → (n-b : Names-b) → ent 𝓤 (mean 𝓤 H A (Refs-b n-b ⊛ Tokens-b n-b ⊛ ‵ (MutRef (named 1) κ-out (Array u8 32) .own (record { ptr = (b-out, o-out); name = γ-out; now = out }) (vptr b-out o-out ∷ [])) ⊛ ‵ (flft κ-out q-out))) (Core 𝓤 H A at-mem run .pre (to-core n-b))
   goes-to-core pre n-b =
       qed W ((Refs-b n-b ⊛ Tokens-b n-b ⊛ ‵ (MutRef (named 1) κ-out (Array u8 32) .own (record { ptr = (b-out, o-out); name = γ-out; now = out }) (vptr b-out o-out ∷ [])) ⊛ ‵ (flft κ-out q-out)) ∷ []) ∵
-      split ! $ move ! (1 ∷ []) $ split ! $ move ! (1 ∷ []) $ split ! $ move ! (3 ∷ []) $ split ! $ move ! (4 ∷ []) $ split ! $ says ! ((pre .many, places-in (colsOf b) pre)) $ nothing ! $ move ! (6 ∷ 0 ∷ []) $ join ! $ move ! (2 ∷ 0 ∷ []) $ join ! $ move ! (1 ∷ 0 ∷ []) $ join ! $ nothing ! $ owned ! u16 (Is u16) (uint-makes 𝓤 H A W w16) place _ (refl, place-fits) $ fjoin ! $ move ! (4 ∷ 0 ∷ []) $ fjoin ! $ move ! (3 ∷ 0 ∷ []) $ fjoin ! $ move ! (2 ∷ 0 ∷ []) $ fjoin ! $ move ! (1 ∷ 0 ∷ []) $ frame ! $ done !
+      split ! $ move ! (1 ∷ []) $ split ! $ move ! (1 ∷ []) $ split ! $ move ! (3 ∷ []) $ split ! $ move ! (4 ∷ []) $ split ! $ says ! ((accounts-in (colsOf b) pre)) $ nothing ! $ move ! (6 ∷ 0 ∷ []) $ join ! $ move ! (2 ∷ 0 ∷ []) $ join ! $ move ! (1 ∷ 0 ∷ []) $ join ! $ nothing ! $ owned ! u16 (Is u16) (uint-makes 𝓤 H A W w16) place _ (refl, place-fits) $ fjoin ! $ move ! (4 ∷ 0 ∷ []) $ fjoin ! $ move ! (3 ∷ 0 ∷ []) $ fjoin ! $ move ! (2 ∷ 0 ∷ []) $ fjoin ! $ move ! (1 ∷ 0 ∷ []) $ frame ! $ done !
 
   -- what is owned on entry is lent
   begins : Req → ent 𝓤 (mean 𝓤 H A ((‵ (flft κ-b q-b) ⊛ ‵ (flft κ-out q-out) ⊛ ‵ (ftrue)) ⊛ ‵ (owns (MutRef (named 0) κ-b Buffer.the-row ∷ MutRef (named 1) κ-out (Array u8 32) ∷ u16 ∷ []) handed vals))) (mean 𝓤 H A (later (some (λ (n-b : Names-b). raw (Core 𝓤 H A at-mem run .pre (to-core n-b)) ⊛ (Kept-b n-b)))))
@@ -157,7 +158,7 @@ module _ {M : Type 1} (𝓤 : URA M) (H : Heap 𝓤) (A : Atoms 𝓤) (W : Given
   exits : Req → (r : ℕ) (out·last : List ℕ) → Did r out·last → r < 2 ^ 8 → ent 𝓤 (⋆ 𝓤 H A (Ended out·last ∷ [])) (Post (vint w8 r))
   exits pre r out·last e r-fits =
       qed W (Ended out·last ∷ []) ∵
-      suffices ! _ (ends-at 𝓤 H A f.ended stayed (f.clauses 𝓤 H A at-mem run) W (((κ-b, (κ-out, tt)), (q-b, (q-out, tt)), tt, handed, vals), tt) (vint w8 r) r (b, (out·last, (tt, tt))) (tt, (tt, (tt, tt)))) $ says ! ((account-seen (colsOf b) place e, refl)) $
+      suffices ! _ (ends-at 𝓤 H A f.ended stayed (f.clauses 𝓤 H A at-mem run) W (((κ-b, (κ-out, tt)), (q-b, (q-out, tt)), tt, handed, vals), tt) (vint w8 r) r (b, (out·last, (tt, tt))) (tt, (tt, (tt, tt)))) $ says ! ((subst (λ (s : SeenAccount). Told r out·last s) (account-seen (colsOf b) place) e, refl)) $
       split ! $ move ! (1 ∷ []) $ split ! $ move ! (1 ∷ []) $ split ! $ move ! (1 ∷ []) $ split ! $ nothing ! $ move ! (2 ∷ 0 ∷ []) $ join ! $ move ! (2 ∷ 0 ∷ []) $ join ! $ frame ! $ nothing ! $ owned ! u16 (Is u16) (uint-makes 𝓤 H A W w16) place _ (refl, place-fits) $ fjoin ! $ move ! (1 ∷ 0 ∷ []) $ fjoin ! $ feqI ! (List Val) (vptr b-b o-b ∷ []) (vptr b-b o-b ∷ []) refl $ move ! (0 ∷ 3 ∷ 2 ∷ []) $ fjoin3 ! $ fjoin ! $ owned ! u8 (Is u8) (uint-makes 𝓤 H A W w8) r _ (refl, r-fits) $ move ! (1 ∷ 0 ∷ []) $ done !
 
   module _ (C : Calls 𝓤 H) (Λ : Loops 𝓤 H) (fm : FmC 𝓤 H (W .laws) C) (known : Triple 𝓤 (C #core) (Core 𝓤 H A at-mem run)) where
@@ -199,4 +200,4 @@ lintelsong-buffer-account-at-spec 𝓤 H 𝓜 𝓖 𝓡 =
     entered 𝓤 H (tripleOf 𝓤 H (𝓖 .A) f.signature (f.spec 𝓤 H (𝓖 .A) (𝓜 .mem) (𝓡 .run)))
     (tables 𝓤 H 𝓜 𝓡 code.env .C) (tables 𝓤 H 𝓜 𝓡 code.env .Λ) #export code.function (code.unfolded 𝓤 H 𝓜 𝓡)
     (lintelsong-buffer-account-at-meets 𝓤 H (𝓖 .A) (givenOf 𝓤 H 𝓜 𝓖) (𝓜 .mem) (𝓡 .run) (tablesOf 𝓤 H 𝓜 (tables 𝓤 H 𝓜 𝓡 code.env))
-    (cited 𝓤 H (Core 𝓤 H (𝓖 .A) (𝓜 .mem) (𝓡 .run)) 𝓜 𝓡 code.env #core core-def.routine code.calls-export-buffer·cores·account-at (core-thm.met 𝓤 H 𝓜 𝓖 𝓡)))
+    (cited 𝓤 H (Core 𝓤 H (𝓖 .A) (𝓜 .mem) (𝓡 .run)) 𝓜 𝓡 code.env #core core-def.routine code.calls-buffer-cores·account-at (core-thm.met 𝓤 H 𝓜 𝓖 𝓡)))

@@ -1,5 +1,5 @@
 -- `lintelsong_buffer_account_messages_count` meets its contract: a walk of its code. Each struct is taken apart, what it lends goes to
--- `cores::account_messages_count` for lifetimes of the call and comes back, and the struct is put together. Of the core it knows the contract alone.
+-- `buffer_cores::account_messages_count` for lifetimes of the call and comes back, and the struct is put together. Of the core it knows the contract alone.
 -- Written by tools/walks.py. Assumes nothing.
 use mathlib.Core.Path.{_≡_, refl, ap}
 use Prim.Native.Nat.{ℕ, _<_, _^_, _+_}
@@ -41,19 +41,16 @@ use denote.Triple.Clauses.{ensured, lasts}
 use denote.Triple.Table.{entered, cited}
 use denote.Triple.Walked.{says, needs, Stays, stay-ref, stay-none-ref, walkOf, goes-ref, goes-none-ref, Walks, ends-at, walked, walk-meets}
 use mathlib.Core.Path.{_∙_}
-use lib.ListN.{getD}
-use Rattle.queues.specs.Cols.{live, kept}
-use Rattle.queues.specs.Look.{ownedBy, seatOf}
-use Rattle.buffer_rules.proofs.LookRule.{queued-told}
+use Rattle.buffer_seen.specs.Lent.{queuedIn}
+use Rattle.buffer_seen.proofs.Looks.{queued-seen, accounts-in, owners-in}
 use Rattle.export_buffer.specs.Held.{colsOf, GoodBuffer}
-use Rattle.export_buffer.proofs.Answers.{rows-in}
 use Rattle.export_buffer.specs.declared.Buffer.{Buffer}
 use Rattle.export_buffer.proofs.Buffer as Buffer
 use Rattle.export_buffer.proofs.BufferApart.{Back as BufferBack, buffer-apart, buffer-together}
-use Rattle.export_buffer.proofs.cores.account_messages_count as core
-use Rattle.export_buffer.proofs.cores.account_messages_count.Symbol as core-def
-use Rattle.export_buffer.proofs.cores.account_messages_count.Symbol.{name as #core}
-use Rattle.export_buffer.proofs.cores.account_messages_count.Met as core-thm
+use Rattle.buffer_cores.proofs.account_messages_count as core
+use Rattle.buffer_cores.proofs.account_messages_count.Symbol as core-def
+use Rattle.buffer_cores.proofs.account_messages_count.Symbol.{name as #core}
+use Rattle.buffer_cores.proofs.account_messages_count.Met as core-thm
 use Rattle.export_buffer.proofs.lintelsong_buffer_account_messages_count.Key.{name as #export}
 use Rattle.export_buffer.proofs.lintelsong_buffer_account_messages_count as f
 use Rattle.export_buffer.proofs.lintelsong_buffer_account_messages_count.Statement as stated
@@ -106,7 +103,7 @@ module _ {M : Type 1} (𝓤 : URA M) (H : Heap 𝓤) (A : Atoms 𝓤) (W : Given
 
   -- what the core ensures of its answer and of what it was lent
   abbrev Did : ℕ → Type 0
-  Did r = r ≡ ownedBy (b .owner) (getD (b .numbers) 2 0) (seatOf (b .accounts) (getD (b .numbers) 3 0) name)
+  Did r = r ≡ queuedIn (b .owner) (b .accounts) (b .numbers) name
 
   abbrev to-core : Names-b → Core 𝓤 H A at-mem run .Ghost
   to-core n-b = ((((n-b .ν0 ∷ []), ((n-b .ν1 ∷ []), ((n-b .ν2 ∷ []), (κ-name, tt)))), (fullShare, (fullShare, (fullShare, (q-name, tt)))), tt, (x0 (n-b .δ0), (x1 (n-b .δ1), (x2 (n-b .δ2), (record { ptr = (b-name, o-name); name = γ-name; now = name }, tt)))), (vptr b-b (o-b + 0) ∷ [], (vptr b-b (o-b + 155648) ∷ [], (vptr b-b (o-b + 172032) ∷ [], (vptr b-name o-name ∷ [], tt))))), tt)
@@ -142,7 +139,7 @@ module _ {M : Type 1} (𝓤 : URA M) (H : Heap 𝓤) (A : Atoms 𝓤) (W : Given
   goes-to-core : Req → (n-b : Names-b) → ent 𝓤 (mean 𝓤 H A (Refs-b n-b ⊛ Tokens-b n-b ⊛ ‵ (ShrRef (named 1) κ-name (Array u8 32) .own (record { ptr = (b-name, o-name); name = γ-name; now = name }) (vptr b-name o-name ∷ [])) ⊛ ‵ (flft κ-name q-name))) (Core 𝓤 H A at-mem run .pre (to-core n-b))
   goes-to-core pre n-b =
       qed W ((Refs-b n-b ⊛ Tokens-b n-b ⊛ ‵ (ShrRef (named 1) κ-name (Array u8 32) .own (record { ptr = (b-name, o-name); name = γ-name; now = name }) (vptr b-name o-name ∷ [])) ⊛ ‵ (flft κ-name q-name)) ∷ []) ∵
-      split ! $ move ! (1 ∷ []) $ split ! $ move ! (1 ∷ []) $ split ! $ move ! (3 ∷ []) $ split ! $ move ! (1 ∷ []) $ split ! $ move ! (5 ∷ []) $ split ! $ move ! (1 ∷ []) $ split ! $ says ! ((rows-in (colsOf b) pre)) $ nothing ! $ move ! (8 ∷ 0 ∷ []) $ join ! $ move ! (2 ∷ 0 ∷ []) $ join ! $ move ! (1 ∷ 0 ∷ []) $ join ! $ move ! (1 ∷ 0 ∷ []) $ join ! $ nothing ! $ move ! (5 ∷ 0 ∷ []) $ fjoin ! $ move ! (3 ∷ 0 ∷ []) $ fjoin ! $ move ! (2 ∷ 0 ∷ []) $ fjoin ! $ move ! (2 ∷ 0 ∷ []) $ fjoin ! $ move ! (1 ∷ 0 ∷ []) $ frame ! $ done !
+      split ! $ move ! (1 ∷ []) $ split ! $ move ! (1 ∷ []) $ split ! $ move ! (3 ∷ []) $ split ! $ move ! (1 ∷ []) $ split ! $ move ! (5 ∷ []) $ split ! $ move ! (1 ∷ []) $ split ! $ says ! ((accounts-in (colsOf b) pre, owners-in (colsOf b) pre)) $ nothing ! $ move ! (8 ∷ 0 ∷ []) $ join ! $ move ! (2 ∷ 0 ∷ []) $ join ! $ move ! (1 ∷ 0 ∷ []) $ join ! $ move ! (1 ∷ 0 ∷ []) $ join ! $ nothing ! $ move ! (5 ∷ 0 ∷ []) $ fjoin ! $ move ! (3 ∷ 0 ∷ []) $ fjoin ! $ move ! (2 ∷ 0 ∷ []) $ fjoin ! $ move ! (2 ∷ 0 ∷ []) $ fjoin ! $ move ! (1 ∷ 0 ∷ []) $ frame ! $ done !
 
   -- what is owned on entry is lent
   begins : Req → ent 𝓤 (mean 𝓤 H A ((‵ (flft κ-b q-b) ⊛ ‵ (flft κ-name q-name) ⊛ ‵ (ftrue)) ⊛ ‵ (owns (MutRef (named 0) κ-b Buffer.the-row ∷ ShrRef (named 1) κ-name (Array u8 32) ∷ []) handed vals))) (mean 𝓤 H A (later (some (λ (n-b : Names-b). raw (Core 𝓤 H A at-mem run .pre (to-core n-b)) ⊛ (Kept-b n-b ⊛ ‵ (ShrRef (named 1) κ-name (Array u8 32) .own (record { ptr = (b-name, o-name); name = γ-name; now = name }) (vptr b-name o-name ∷ [])))))))
@@ -167,7 +164,7 @@ module _ {M : Type 1} (𝓤 : URA M) (H : Heap 𝓤) (A : Atoms 𝓤) (W : Given
   exits : Req → (r : ℕ) → Did r → r < 2 ^ 64 → ent 𝓤 (⋆ 𝓤 H A (Ended ∷ [])) (Post (vint w64 r))
   exits pre r e r-fits =
       qed W (Ended ∷ []) ∵
-      suffices ! _ (ends-at 𝓤 H A f.ended stayed (f.clauses 𝓤 H A at-mem run) W (((κ-b, (κ-name, tt)), (q-b, (q-name, tt)), tt, handed, vals), tt) (vint w64 r) r (b, (tt, tt)) (tt, (tt, tt))) $ says ! ((e ∙ queued-told (live (colsOf b)) name (pre .now .placed), refl)) $
+      suffices ! _ (ends-at 𝓤 H A f.ended stayed (f.clauses 𝓤 H A at-mem run) W (((κ-b, (κ-name, tt)), (q-b, (q-name, tt)), tt, handed, vals), tt) (vint w64 r) r (b, (tt, tt)) (tt, (tt, tt))) $ says ! ((e ∙ queued-seen (colsOf b) pre name, refl)) $
       split ! $ move ! (1 ∷ []) $ split ! $ move ! (1 ∷ []) $ split ! $ move ! (1 ∷ []) $ split ! $ nothing ! $ move ! (2 ∷ 0 ∷ []) $ join ! $ move ! (2 ∷ 0 ∷ []) $ join ! $ frame ! $ nothing ! $ move ! (1 ∷ 0 ∷ []) $ fjoin ! $ feqI ! (List Val) (vptr b-b o-b ∷ []) (vptr b-b o-b ∷ []) refl $ move ! (0 ∷ 3 ∷ 2 ∷ []) $ fjoin3 ! $ fjoin ! $ owned ! u64 (Is u64) (uint-makes 𝓤 H A W w64) r _ (refl, r-fits) $ move ! (1 ∷ 0 ∷ []) $ done !
 
   module _ (C : Calls 𝓤 H) (Λ : Loops 𝓤 H) (fm : FmC 𝓤 H (W .laws) C) (known : Triple 𝓤 (C #core) (Core 𝓤 H A at-mem run)) where
@@ -209,4 +206,4 @@ lintelsong-buffer-account-messages-count-spec 𝓤 H 𝓜 𝓖 𝓡 =
     entered 𝓤 H (tripleOf 𝓤 H (𝓖 .A) f.signature (f.spec 𝓤 H (𝓖 .A) (𝓜 .mem) (𝓡 .run)))
     (tables 𝓤 H 𝓜 𝓡 code.env .C) (tables 𝓤 H 𝓜 𝓡 code.env .Λ) #export code.function (code.unfolded 𝓤 H 𝓜 𝓡)
     (lintelsong-buffer-account-messages-count-meets 𝓤 H (𝓖 .A) (givenOf 𝓤 H 𝓜 𝓖) (𝓜 .mem) (𝓡 .run) (tablesOf 𝓤 H 𝓜 (tables 𝓤 H 𝓜 𝓡 code.env))
-    (cited 𝓤 H (Core 𝓤 H (𝓖 .A) (𝓜 .mem) (𝓡 .run)) 𝓜 𝓡 code.env #core core-def.routine code.calls-export-buffer·cores·account-messages-count (core-thm.met 𝓤 H 𝓜 𝓖 𝓡)))
+    (cited 𝓤 H (Core 𝓤 H (𝓖 .A) (𝓜 .mem) (𝓡 .run)) 𝓜 𝓡 code.env #core core-def.routine code.calls-buffer-cores·account-messages-count (core-thm.met 𝓤 H 𝓜 𝓖 𝓡)))

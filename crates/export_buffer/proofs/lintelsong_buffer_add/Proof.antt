@@ -42,10 +42,11 @@ use denote.Triple.Table.{entered, cited}
 use denote.Triple.Walked.{says, needs, Stays, stay-ref, stay-none, stay-none-ref, walkOf, goes-none, goes-ref, goes-none-ref, Walks, ends-at, walked, walk-meets}
 use Rattle.rules.specs.Calls.{addMessage}
 use Rattle.message.specs.Real.{Real, offer}
-use Rattle.queues.specs.Cols.{cols, kept}
+use Rattle.queues.specs.Cols.{cols}
 use Rattle.queues.specs.Meant.{meant}
 use Rattle.queues.specs.Append.{addC}
-use Rattle.export_buffer.specs.Lent.{Gives, messageOf}
+use Rattle.export_parts.specs.Parts.{messageOf}
+use Rattle.buffer_cores.specs.Told.{Gives}
 use Rattle.export_buffer.specs.Held.{colsOf, GoodBuffer}
 use Rattle.export_buffer.specs.declared.Buffer.{Buffer}
 use Rattle.export_buffer.proofs.Buffer as Buffer

@@ -41,10 +41,10 @@ use denote.Triple.Table.{entered, cited}
 use denote.Triple.Walked.{says, needs, Stays, stay-ref, walkOf, goes-ref, Walks, ends-at, walked, walk-meets}
 use Rattle.rules.specs.Calls.{begin as beginBy}
 use Rattle.message.specs.Real.{Real}
-use Rattle.queues.specs.Cols.{cols, kept}
+use Rattle.queues.specs.Cols.{cols}
 use Rattle.queues.specs.Meant.{meant}
 use Rattle.queues.specs.Transact.{beginC}
-use Rattle.export_buffer.specs.Lent.{Gives}
+use Rattle.buffer_cores.specs.Told.{Gives}
 use Rattle.export_buffer.specs.Held.{colsOf, GoodBuffer}
 use Rattle.export_buffer.specs.declared.Buffer.{Buffer}
 use Rattle.export_buffer.proofs.Buffer as Buffer

@@ -1,5 +1,5 @@
 -- `lintelsong_buffer_counts` meets its contract: a walk of its code. Each struct is taken apart, what it lends goes to
--- `cores::counts` for lifetimes of the call and comes back, and the struct is put together. Of the core it knows the contract alone.
+-- `buffer_cores::counts` for lifetimes of the call and comes back, and the struct is put together. Of the core it knows the contract alone.
 -- Written by tools/walks.py. Assumes nothing.
 use mathlib.Core.Path.{_≡_, refl, ap}
 use Prim.Native.Nat.{ℕ, _<_, _^_, _+_}
@@ -39,18 +39,18 @@ use denote.Triple.Call.{calls-at}
 use denote.Triple.Clauses.{ensured, lasts}
 use denote.Triple.Table.{entered, cited}
 use denote.Triple.Walked.{says, needs, Stays, stay-ref, gave-ref, walkOf, goes-ref, goes-gave-ref, Walks, ends-at, walked, walk-meets}
-use mathlib.Core.Path.{sym, _∙_}
-use Rattle.queues.specs.Cols.{kept}
-use Rattle.buffers.proofs.Looks.{counts-are}
-use Rattle.export_buffer.specs.Lent.{readAs, listed}
+use mathlib.Core.Path.{_∙_}
+use Rattle.buffer_reads.specs.Lent.{countsIn}
+use Rattle.buffer_reads.proofs.Looks.{counts-seen}
+use Rattle.buffer_cores.specs.Told.{listed}
 use Rattle.export_buffer.specs.Held.{colsOf, GoodBuffer}
 use Rattle.export_buffer.specs.declared.Buffer.{Buffer}
 use Rattle.export_buffer.proofs.Buffer as Buffer
 use Rattle.export_buffer.proofs.BufferApart.{Back as BufferBack, buffer-apart, buffer-together}
-use Rattle.export_buffer.proofs.cores.counts as core
-use Rattle.export_buffer.proofs.cores.counts.Symbol as core-def
-use Rattle.export_buffer.proofs.cores.counts.Symbol.{name as #core}
-use Rattle.export_buffer.proofs.cores.counts.Met as core-thm
+use Rattle.buffer_cores.proofs.counts as core
+use Rattle.buffer_cores.proofs.counts.Symbol as core-def
+use Rattle.buffer_cores.proofs.counts.Symbol.{name as #core}
+use Rattle.buffer_cores.proofs.counts.Met as core-thm
 use Rattle.export_buffer.proofs.lintelsong_buffer_counts.Key.{name as #export}
 use Rattle.export_buffer.proofs.lintelsong_buffer_counts as f
 use Rattle.export_buffer.proofs.lintelsong_buffer_counts.Statement as stated
@@ -91,7 +91,7 @@ module _ {M : Type 1} (𝓤 : URA M) (H : Heap 𝓤) (A : Atoms 𝓤) (W : Given
 
   -- what the core ensures of its answer and of what it was lent
   abbrev Did : ℕ → List ℕ → Type 0
-  Did r out·last = (r ≡ 0) × (out·last ≡ readAs (b .numbers))
+  Did r out·last = (r ≡ 0) × (out·last ≡ listed (countsIn (b .numbers)))
 
   abbrev to-core : Names-b → Core 𝓤 H A at-mem run .Ghost
   to-core n-b = ((((n-b .ν0 ∷ []), (κ-out, tt)), (fullShare, (q-out, tt)), tt, (x0 (n-b .δ0), (record { ptr = (b-out, o-out); name = γ-out; now = out }, tt)), (vptr b-b (o-b + 172032) ∷ [], (vptr b-out o-out ∷ [], tt))), tt)
@@ -148,7 +148,7 @@ module _ {M : Type 1} (𝓤 : URA M) (H : Heap 𝓤) (A : Atoms 𝓤) (W : Given
   exits : Req → (r : ℕ) (out·last : List ℕ) → Did r out·last → r < 2 ^ 8 → ent 𝓤 (⋆ 𝓤 H A (Ended out·last ∷ [])) (Post (vint w8 r))
   exits pre r out·last e r-fits =
       qed W (Ended out·last ∷ []) ∵
-      suffices ! _ (ends-at 𝓤 H A f.ended stayed (f.clauses 𝓤 H A at-mem run) W (((κ-b, (κ-out, tt)), (q-b, (q-out, tt)), tt, handed, vals), tt) (vint w8 r) r (b, (out·last, tt)) (tt, (tt, tt))) $ says ! ((e .0, e .1 ∙ ap listed (sym (counts-are (colsOf b) pre)), refl)) $
+      suffices ! _ (ends-at 𝓤 H A f.ended stayed (f.clauses 𝓤 H A at-mem run) W (((κ-b, (κ-out, tt)), (q-b, (q-out, tt)), tt, handed, vals), tt) (vint w8 r) r (b, (out·last, tt)) (tt, (tt, tt))) $ says ! ((e .0, e .1 ∙ ap listed (counts-seen (colsOf b) pre), refl)) $
       split ! $ move ! (1 ∷ []) $ split ! $ move ! (1 ∷ []) $ split ! $ move ! (1 ∷ []) $ split ! $ nothing ! $ move ! (2 ∷ 0 ∷ []) $ join ! $ move ! (2 ∷ 0 ∷ []) $ join ! $ frame ! $ nothing ! $ move ! (1 ∷ 0 ∷ []) $ fjoin ! $ feqI ! (List Val) (vptr b-b o-b ∷ []) (vptr b-b o-b ∷ []) refl $ move ! (0 ∷ 3 ∷ 2 ∷ []) $ fjoin3 ! $ fjoin ! $ owned ! u8 (Is u8) (uint-makes 𝓤 H A W w8) r _ (refl, r-fits) $ move ! (1 ∷ 0 ∷ []) $ done !
 
   module _ (C : Calls 𝓤 H) (Λ : Loops 𝓤 H) (fm : FmC 𝓤 H (W .laws) C) (known : Triple 𝓤 (C #core) (Core 𝓤 H A at-mem run)) where
@@ -189,4 +189,4 @@ lintelsong-buffer-counts-spec 𝓤 H 𝓜 𝓖 𝓡 =
     entered 𝓤 H (tripleOf 𝓤 H (𝓖 .A) f.signature (f.spec 𝓤 H (𝓖 .A) (𝓜 .mem) (𝓡 .run)))
     (tables 𝓤 H 𝓜 𝓡 code.env .C) (tables 𝓤 H 𝓜 𝓡 code.env .Λ) #export code.function (code.unfolded 𝓤 H 𝓜 𝓡)
     (lintelsong-buffer-counts-meets 𝓤 H (𝓖 .A) (givenOf 𝓤 H 𝓜 𝓖) (𝓜 .mem) (𝓡 .run) (tablesOf 𝓤 H 𝓜 (tables 𝓤 H 𝓜 𝓡 code.env))
-    (cited 𝓤 H (Core 𝓤 H (𝓖 .A) (𝓜 .mem) (𝓡 .run)) 𝓜 𝓡 code.env #core core-def.routine code.calls-export-buffer·cores·counts (core-thm.met 𝓤 H 𝓜 𝓖 𝓡)))
+    (cited 𝓤 H (Core 𝓤 H (𝓖 .A) (𝓜 .mem) (𝓡 .run)) 𝓜 𝓡 code.env #core core-def.routine code.calls-buffer-cores·counts (core-thm.met 𝓤 H 𝓜 𝓖 𝓡)))

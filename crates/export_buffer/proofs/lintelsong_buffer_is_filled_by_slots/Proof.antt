@@ -1,5 +1,5 @@
 -- `lintelsong_buffer_is_filled_by_slots` meets its contract: a walk of its code. Each struct is taken apart, what it lends goes to
--- `cores::is_filled_by_slots` for lifetimes of the call and comes back, and the struct is put together. Of the core it knows the contract alone.
+-- `buffer_cores::is_filled_by_slots` for lifetimes of the call and comes back, and the struct is put together. Of the core it knows the contract alone.
 -- Written by tools/walks.py. Assumes nothing.
 use mathlib.Core.Path.{_≡_, refl, ap}
 use Prim.Native.Nat.{ℕ, _<_, _^_, _+_}
@@ -40,16 +40,18 @@ use denote.Triple.Clauses.{ensured, lasts}
 use denote.Triple.Table.{entered, cited}
 use denote.Triple.Walked.{says, needs, Stays, stay-ref, walkOf, goes-ref, Walks, ends-at, walked, walk-meets}
 use mathlib.Core.Path.{_∙_}
-use Rattle.queues.specs.Cols.{kept}
-use Rattle.export_buffer.specs.Held.{GoodBuffer}
-use Rattle.export_buffer.proofs.Answers.{slots-never}
+use Rattle.buffer_reads.specs.declared.Filled.{Filled}
+use Rattle.buffer_reads.specs.Lent.{filledIn}
+use Rattle.buffer_reads.proofs.Looks.{filled-seen}
+use Rattle.export_parts.specs.Parts.{bit}
+use Rattle.export_buffer.specs.Held.{colsOf, GoodBuffer}
 use Rattle.export_buffer.specs.declared.Buffer.{Buffer}
 use Rattle.export_buffer.proofs.Buffer as Buffer
 use Rattle.export_buffer.proofs.BufferApart.{Back as BufferBack, buffer-apart, buffer-together}
-use Rattle.export_buffer.proofs.cores.is_filled_by_slots as core
-use Rattle.export_buffer.proofs.cores.is_filled_by_slots.Symbol as core-def
-use Rattle.export_buffer.proofs.cores.is_filled_by_slots.Symbol.{name as #core}
-use Rattle.export_buffer.proofs.cores.is_filled_by_slots.Met as core-thm
+use Rattle.buffer_cores.proofs.is_filled_by_slots as core
+use Rattle.buffer_cores.proofs.is_filled_by_slots.Symbol as core-def
+use Rattle.buffer_cores.proofs.is_filled_by_slots.Symbol.{name as #core}
+use Rattle.buffer_cores.proofs.is_filled_by_slots.Met as core-thm
 use Rattle.export_buffer.proofs.lintelsong_buffer_is_filled_by_slots.Key.{name as #export}
 use Rattle.export_buffer.proofs.lintelsong_buffer_is_filled_by_slots as f
 use Rattle.export_buffer.proofs.lintelsong_buffer_is_filled_by_slots.Statement as stated
@@ -90,7 +92,7 @@ module _ {M : Type 1} (𝓤 : URA M) (H : Heap 𝓤) (A : Atoms 𝓤) (W : Given
 
   -- what the core ensures of its answer and of what it was lent
   abbrev Did : ℕ → Type 0
-  Did r = r ≡ 0
+  Did r = r ≡ bit (filledIn (b .numbers) 0 .slots)
 
   abbrev to-core : Names-b → Core 𝓤 H A at-mem run .Ghost
   to-core n-b = ((((n-b .ν0 ∷ []), tt), (fullShare, tt), tt, (x0 (n-b .δ0), tt), (vptr b-b (o-b + 172032) ∷ [], tt)), tt)
@@ -147,7 +149,7 @@ module _ {M : Type 1} (𝓤 : URA M) (H : Heap 𝓤) (A : Atoms 𝓤) (W : Given
   exits : Req → (r : ℕ) → Did r → r < 2 ^ 8 → ent 𝓤 (⋆ 𝓤 H A (Ended ∷ [])) (Post (vint w8 r))
   exits pre r e r-fits =
       qed W (Ended ∷ []) ∵
-      suffices ! _ (ends-at 𝓤 H A f.ended stayed (f.clauses 𝓤 H A at-mem run) W (((κ-b, tt), (q-b, tt), tt, handed, vals), tt) (vint w8 r) r (b, tt) (tt, tt)) $ says ! ((e ∙ slots-never, refl)) $
+      suffices ! _ (ends-at 𝓤 H A f.ended stayed (f.clauses 𝓤 H A at-mem run) W (((κ-b, tt), (q-b, tt), tt, handed, vals), tt) (vint w8 r) r (b, tt) (tt, tt)) $ says ! ((e ∙ ap (λ (f : Filled). bit (f .slots)) (filled-seen (colsOf b) pre 0), refl)) $
       split ! $ move ! (1 ∷ []) $ split ! $ nothing ! $ move ! (2 ∷ 0 ∷ []) $ join ! $ frame ! $ nothing ! $ feqI ! (List Val) (vptr b-b o-b ∷ []) (vptr b-b o-b ∷ []) refl $ move ! (0 ∷ 3 ∷ 2 ∷ []) $ fjoin3 ! $ fjoin ! $ owned ! u8 (Is u8) (uint-makes 𝓤 H A W w8) r _ (refl, r-fits) $ move ! (1 ∷ 0 ∷ []) $ done !
 
   module _ (C : Calls 𝓤 H) (Λ : Loops 𝓤 H) (fm : FmC 𝓤 H (W .laws) C) (known : Triple 𝓤 (C #core) (Core 𝓤 H A at-mem run)) where
@@ -187,4 +189,4 @@ lintelsong-buffer-is-filled-by-slots-spec 𝓤 H 𝓜 𝓖 𝓡 =
     entered 𝓤 H (tripleOf 𝓤 H (𝓖 .A) f.signature (f.spec 𝓤 H (𝓖 .A) (𝓜 .mem) (𝓡 .run)))
     (tables 𝓤 H 𝓜 𝓡 code.env .C) (tables 𝓤 H 𝓜 𝓡 code.env .Λ) #export code.function (code.unfolded 𝓤 H 𝓜 𝓡)
     (lintelsong-buffer-is-filled-by-slots-meets 𝓤 H (𝓖 .A) (givenOf 𝓤 H 𝓜 𝓖) (𝓜 .mem) (𝓡 .run) (tablesOf 𝓤 H 𝓜 (tables 𝓤 H 𝓜 𝓡 code.env))
-    (cited 𝓤 H (Core 𝓤 H (𝓖 .A) (𝓜 .mem) (𝓡 .run)) 𝓜 𝓡 code.env #core core-def.routine code.calls-export-buffer·cores·is-filled-by-slots (core-thm.met 𝓤 H 𝓜 𝓖 𝓡)))
+    (cited 𝓤 H (Core 𝓤 H (𝓖 .A) (𝓜 .mem) (𝓡 .run)) 𝓜 𝓡 code.env #core core-def.routine code.calls-buffer-cores·is-filled-by-slots (core-thm.met 𝓤 H 𝓜 𝓖 𝓡)))

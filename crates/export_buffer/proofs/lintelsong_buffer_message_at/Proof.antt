@@ -1,5 +1,5 @@
 -- `lintelsong_buffer_message_at` meets its contract: a walk of its code. Each struct is taken apart, what it lends goes to
--- `cores::message_at` for lifetimes of the call and comes back, and the struct is put together. Of the core it knows the contract alone.
+-- `buffer_cores::message_at` for lifetimes of the call and comes back, and the struct is put together. Of the core it knows the contract alone.
 -- Written by tools/walks.py. Assumes nothing.
 use mathlib.Core.Path.{refl, ap}
 use Prim.Native.Nat.{ℕ, _<_, _^_, _+_}
@@ -40,18 +40,19 @@ use denote.Triple.Call.{calls-at}
 use denote.Triple.Clauses.{ensured, lasts}
 use denote.Triple.Table.{entered, cited}
 use denote.Triple.Walked.{says, needs, Stays, stay-ref, stay-none, gave-ref, walkOf, goes-none, goes-ref, goes-gave-ref, Walks, ends-at, walked, walk-meets}
-use Rattle.queues.specs.Cols.{kept}
+use mathlib.Core.Path.{subst}
+use Rattle.message.specs.declared.SeenMessage.{SeenMessage}
+use Rattle.buffer_seen.specs.Lent.{messageFound}
+use Rattle.buffer_seen.proofs.Looks.{message-seen, messages-in}
 use Rattle.export_parts.specs.Parts.{ToldMessage}
-use Rattle.export_buffer.specs.Lent.{foundMessage}
 use Rattle.export_buffer.specs.Held.{colsOf, GoodBuffer}
-use Rattle.export_buffer.proofs.Answers.{message-seen, messages-in}
 use Rattle.export_buffer.specs.declared.Buffer.{Buffer}
 use Rattle.export_buffer.proofs.Buffer as Buffer
 use Rattle.export_buffer.proofs.BufferApart.{Back as BufferBack, buffer-apart, buffer-together}
-use Rattle.export_buffer.proofs.cores.message_at as core
-use Rattle.export_buffer.proofs.cores.message_at.Symbol as core-def
-use Rattle.export_buffer.proofs.cores.message_at.Symbol.{name as #core}
-use Rattle.export_buffer.proofs.cores.message_at.Met as core-thm
+use Rattle.buffer_cores.proofs.message_at as core
+use Rattle.buffer_cores.proofs.message_at.Symbol as core-def
+use Rattle.buffer_cores.proofs.message_at.Symbol.{name as #core}
+use Rattle.buffer_cores.proofs.message_at.Met as core-thm
 use Rattle.export_buffer.proofs.lintelsong_buffer_message_at.Key.{name as #export}
 use Rattle.export_buffer.proofs.lintelsong_buffer_message_at as f
 use Rattle.export_buffer.proofs.lintelsong_buffer_message_at.Statement as stated
@@ -128,7 +129,7 @@ module _ {M : Type 1} (𝓤 : URA M) (H : Heap 𝓤) (A : Atoms 𝓤) (W : Given
 
   -- what the core ensures of its answer and of what it was lent
   abbrev Did : ℕ → List ℕ → List ℕ → List ℕ → Type 0
-  Did r facts·last address·last hash·last = ToldMessage r facts·last address·last hash·last (foundMessage (b .owner) (b .kind) (b .form) (b .time) (b .address) (b .hash) (b .numbers) place position)
+  Did r facts·last address·last hash·last = ToldMessage r facts·last address·last hash·last (messageFound (b .owner) (b .kind) (b .form) (b .time) (b .address) (b .hash) (b .numbers) place position)
 
   abbrev to-core : Names-b → Core 𝓤 H A at-mem run .Ghost
   to-core n-b = ((((n-b .ν0 ∷ []), ((n-b .ν1 ∷ []), ((n-b .ν2 ∷ []), ((n-b .ν3 ∷ []), ((n-b .ν4 ∷ []), ((n-b .ν5 ∷ []), ((n-b .ν6 ∷ []), (κ-facts, (κ-address, (κ-hash, tt)))))))))), (fullShare, (fullShare, (fullShare, (fullShare, (fullShare, (fullShare, (fullShare, (q-facts, (q-address, (q-hash, tt)))))))))), tt, (x0 (n-b .δ0), (x1 (n-b .δ1), (x2 (n-b .δ2), (x3 (n-b .δ3), (x4 (n-b .δ4), (x5 (n-b .δ5), (x6 (n-b .δ6), (record { ptr = (b-facts, o-facts); name = γ-facts; now = facts }, (record { ptr = (b-address, o-address); name = γ-address; now = address }, (record { ptr = (b-hash, o-hash); name = γ-hash; now = hash }, (place, (position, tt)))))))))))), (vptr b-b (o-b + 0) ∷ [], (vptr b-b (o-b + 4096) ∷ [], (vptr b-b (o-b + 6144) ∷ [], (vptr b-b (o-b + 8192) ∷ [], (vptr b-b (o-b + 24576) ∷ [], (vptr b-b (o-b + 90112) ∷ [], (vptr b-b (o-b + 172032) ∷ [], (vptr b-facts o-facts ∷ [], (vptr b-address o-address ∷ [], (vptr b-hash o-hash ∷ [], (vint w16 place ∷ [], (vint w64 position ∷ [], tt))))))))))))), tt)
@@ -197,7 +198,7 @@ module _ {M : Type 1} (𝓤 : URA M) (H : Heap 𝓤) (A : Atoms 𝓤) (W : Given
   exits : Req → (r : ℕ) (facts·last : List ℕ) (address·last : List ℕ) (hash·last : List ℕ) → Did r facts·last address·last hash·last → r < 2 ^ 8 → ent 𝓤 (⋆ 𝓤 H A (Ended facts·last address·last hash·last ∷ [])) (Post (vint w8 r))
   exits pre r facts·last address·last hash·last e r-fits =
       qed W (Ended facts·last address·last hash·last ∷ []) ∵
-      suffices ! _ (ends-at 𝓤 H A f.ended stayed (f.clauses 𝓤 H A at-mem run) W (((κ-b, (κ-facts, (κ-address, (κ-hash, tt)))), (q-b, (q-facts, (q-address, (q-hash, tt)))), tt, handed, vals), tt) (vint w8 r) r (b, (facts·last, (address·last, (hash·last, (tt, (tt, tt)))))) (tt, (tt, (tt, (tt, (tt, (tt, tt))))))) $ says ! ((message-seen (colsOf b) pre place position e, refl)) $
+      suffices ! _ (ends-at 𝓤 H A f.ended stayed (f.clauses 𝓤 H A at-mem run) W (((κ-b, (κ-facts, (κ-address, (κ-hash, tt)))), (q-b, (q-facts, (q-address, (q-hash, tt)))), tt, handed, vals), tt) (vint w8 r) r (b, (facts·last, (address·last, (hash·last, (tt, (tt, tt)))))) (tt, (tt, (tt, (tt, (tt, (tt, tt))))))) $ says ! ((subst (λ (s : SeenMessage). ToldMessage r facts·last address·last hash·last s) (message-seen (colsOf b) pre place position) e, refl)) $
       split ! $ move ! (1 ∷ []) $ split ! $ move ! (1 ∷ []) $ split ! $ move ! (1 ∷ []) $ split ! $ move ! (1 ∷ []) $ split ! $ move ! (1 ∷ []) $ split ! $ move ! (1 ∷ []) $ split ! $ move ! (1 ∷ []) $ split ! $ nothing ! $ move ! (2 ∷ 0 ∷ []) $ join ! $ move ! (2 ∷ 0 ∷ []) $ join ! $ move ! (3 ∷ 0 ∷ []) $ join ! $ move ! (4 ∷ 0 ∷ []) $ join ! $ frame ! $ nothing ! $ owned ! u64 (Is u64) (uint-makes 𝓤 H A W w64) position _ (refl, position-fits) $ fjoin ! $ owned ! u16 (Is u16) (uint-makes 𝓤 H A W w16) place _ (refl, place-fits) $ fjoin ! $ move ! (1 ∷ 0 ∷ []) $ fjoin ! $ move ! (1 ∷ 0 ∷ []) $ fjoin ! $ move ! (1 ∷ 0 ∷ []) $ fjoin ! $ feqI ! (List Val) (vptr b-b o-b ∷ []) (vptr b-b o-b ∷ []) refl $ move ! (0 ∷ 3 ∷ 2 ∷ []) $ fjoin3 ! $ fjoin ! $ owned ! u8 (Is u8) (uint-makes 𝓤 H A W w8) r _ (refl, r-fits) $ move ! (1 ∷ 0 ∷ []) $ done !
 
   module _ (C : Calls 𝓤 H) (Λ : Loops 𝓤 H) (fm : FmC 𝓤 H (W .laws) C) (known : Triple 𝓤 (C #core) (Core 𝓤 H A at-mem run)) where
@@ -246,4 +247,4 @@ lintelsong-buffer-message-at-spec 𝓤 H 𝓜 𝓖 𝓡 =
     entered 𝓤 H (tripleOf 𝓤 H (𝓖 .A) f.signature (f.spec 𝓤 H (𝓖 .A) (𝓜 .mem) (𝓡 .run)))
     (tables 𝓤 H 𝓜 𝓡 code.env .C) (tables 𝓤 H 𝓜 𝓡 code.env .Λ) #export code.function (code.unfolded 𝓤 H 𝓜 𝓡)
     (lintelsong-buffer-message-at-meets 𝓤 H (𝓖 .A) (givenOf 𝓤 H 𝓜 𝓖) (𝓜 .mem) (𝓡 .run) (tablesOf 𝓤 H 𝓜 (tables 𝓤 H 𝓜 𝓡 code.env))
-    (cited 𝓤 H (Core 𝓤 H (𝓖 .A) (𝓜 .mem) (𝓡 .run)) 𝓜 𝓡 code.env #core core-def.routine code.calls-export-buffer·cores·message-at (core-thm.met 𝓤 H 𝓜 𝓖 𝓡)))
+    (cited 𝓤 H (Core 𝓤 H (𝓖 .A) (𝓜 .mem) (𝓡 .run)) 𝓜 𝓡 code.env #core core-def.routine code.calls-buffer-cores·message-at (core-thm.met 𝓤 H 𝓜 𝓖 𝓡)))

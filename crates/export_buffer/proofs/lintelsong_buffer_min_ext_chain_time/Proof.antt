@@ -1,5 +1,5 @@
 -- `lintelsong_buffer_min_ext_chain_time` meets its contract: a walk of its code. Each struct is taken apart, what it lends goes to
--- `cores::min_ext_chain_time` for lifetimes of the call and comes back, and the struct is put together. Of the core it knows the contract alone.
+-- `buffer_cores::min_ext_chain_time` for lifetimes of the call and comes back, and the struct is put together. Of the core it knows the contract alone.
 -- Written by tools/walks.py. Assumes nothing.
 use mathlib.Core.Path.{_≡_, refl, ap}
 use Prim.Native.Nat.{ℕ, _<_, _^_, _+_}
@@ -39,16 +39,15 @@ use denote.Triple.Call.{calls-at}
 use denote.Triple.Clauses.{ensured, lasts}
 use denote.Triple.Table.{entered, cited}
 use denote.Triple.Walked.{says, needs, Stays, stay-ref, walkOf, goes-ref, Walks, ends-at, walked, walk-meets}
-use Rattle.queues.specs.Cols.{kept}
-use Rattle.export_buffer.specs.Lent.{lowestIn}
+use Rattle.buffer_reads.specs.Lent.{lowestIn}
 use Rattle.export_buffer.specs.Held.{GoodBuffer}
 use Rattle.export_buffer.specs.declared.Buffer.{Buffer}
 use Rattle.export_buffer.proofs.Buffer as Buffer
 use Rattle.export_buffer.proofs.BufferApart.{Back as BufferBack, buffer-apart, buffer-together}
-use Rattle.export_buffer.proofs.cores.min_ext_chain_time as core
-use Rattle.export_buffer.proofs.cores.min_ext_chain_time.Symbol as core-def
-use Rattle.export_buffer.proofs.cores.min_ext_chain_time.Symbol.{name as #core}
-use Rattle.export_buffer.proofs.cores.min_ext_chain_time.Met as core-thm
+use Rattle.buffer_cores.proofs.min_ext_chain_time as core
+use Rattle.buffer_cores.proofs.min_ext_chain_time.Symbol as core-def
+use Rattle.buffer_cores.proofs.min_ext_chain_time.Symbol.{name as #core}
+use Rattle.buffer_cores.proofs.min_ext_chain_time.Met as core-thm
 use Rattle.export_buffer.proofs.lintelsong_buffer_min_ext_chain_time.Key.{name as #export}
 use Rattle.export_buffer.proofs.lintelsong_buffer_min_ext_chain_time as f
 use Rattle.export_buffer.proofs.lintelsong_buffer_min_ext_chain_time.Statement as stated
@@ -186,4 +185,4 @@ lintelsong-buffer-min-ext-chain-time-spec 𝓤 H 𝓜 𝓖 𝓡 =
     entered 𝓤 H (tripleOf 𝓤 H (𝓖 .A) f.signature (f.spec 𝓤 H (𝓖 .A) (𝓜 .mem) (𝓡 .run)))
     (tables 𝓤 H 𝓜 𝓡 code.env .C) (tables 𝓤 H 𝓜 𝓡 code.env .Λ) #export code.function (code.unfolded 𝓤 H 𝓜 𝓡)
     (lintelsong-buffer-min-ext-chain-time-meets 𝓤 H (𝓖 .A) (givenOf 𝓤 H 𝓜 𝓖) (𝓜 .mem) (𝓡 .run) (tablesOf 𝓤 H 𝓜 (tables 𝓤 H 𝓜 𝓡 code.env))
-    (cited 𝓤 H (Core 𝓤 H (𝓖 .A) (𝓜 .mem) (𝓡 .run)) 𝓜 𝓡 code.env #core core-def.routine code.calls-export-buffer·cores·min-ext-chain-time (core-thm.met 𝓤 H 𝓜 𝓖 𝓡)))
+    (cited 𝓤 H (Core 𝓤 H (𝓖 .A) (𝓜 .mem) (𝓡 .run)) 𝓜 𝓡 code.env #core core-def.routine code.calls-buffer-cores·min-ext-chain-time (core-thm.met 𝓤 H 𝓜 𝓖 𝓡)))

@@ -46,10 +46,10 @@ use Prim.Native.Nat.{_/_}
 use Rattle.columns.specs.Rows.{rowsOf}
 use Rattle.rules.specs.Calls.{removeAccounts}
 use Rattle.message.specs.Real.{Real}
-use Rattle.queues.specs.Cols.{cols, kept}
+use Rattle.queues.specs.Cols.{cols}
 use Rattle.queues.specs.Meant.{meant}
 use Rattle.queues.specs.Compact.{removeC}
-use Rattle.export_buffer.specs.Lent.{Gives}
+use Rattle.buffer_cores.specs.Told.{Gives}
 use Rattle.export_buffer.specs.Held.{colsOf, GoodBuffer}
 use Rattle.export_buffer.specs.declared.Buffer.{Buffer}
 use Rattle.export_buffer.proofs.Buffer as Buffer

@@ -1,5 +1,5 @@
 -- `lintelsong_buffer_set_up` meets its contract: a walk of its code. Each struct is taken apart, what it lends goes to
--- `cores::set_up` for lifetimes of the call and comes back, and the struct is put together. Of the core it knows the contract alone.
+-- `buffer_cores::set_up` for lifetimes of the call and comes back, and the struct is put together. Of the core it knows the contract alone.
 -- Written by tools/walks.py. Assumes nothing.
 use mathlib.Core.Path.{refl, ap}
 use Prim.Native.Nat.{ℕ, _<_, _^_, _+_}
@@ -42,16 +42,16 @@ use denote.Triple.Table.{entered, cited}
 use denote.Triple.Walked.{says, Stays, stay-ref, stay-none, walkOf, goes-none, goes-ref, Walks, ends-at, walked, walk-meets}
 use Rattle.rules.specs.Calls.{setUpBuffer}
 use Rattle.message.specs.Real.{Real}
-use Rattle.queues.specs.Cols.{cols, kept}
+use Rattle.queues.specs.Cols.{cols}
 use Rattle.buffers.specs.Buffers.{setUpC}
-use Rattle.export_buffer.specs.Lent.{Gives}
+use Rattle.buffer_cores.specs.Told.{Gives}
 use Rattle.export_buffer.specs.declared.Buffer.{Buffer}
 use Rattle.export_buffer.proofs.Buffer as Buffer
 use Rattle.export_buffer.proofs.BufferApart.{Back as BufferBack, buffer-apart, buffer-together}
-use Rattle.export_buffer.proofs.cores.set_up as core
-use Rattle.export_buffer.proofs.cores.set_up.Symbol as core-def
-use Rattle.export_buffer.proofs.cores.set_up.Symbol.{name as #core}
-use Rattle.export_buffer.proofs.cores.set_up.Met as core-thm
+use Rattle.buffer_cores.proofs.set_up as core
+use Rattle.buffer_cores.proofs.set_up.Symbol as core-def
+use Rattle.buffer_cores.proofs.set_up.Symbol.{name as #core}
+use Rattle.buffer_cores.proofs.set_up.Met as core-thm
 use Rattle.export_buffer.proofs.lintelsong_buffer_set_up.Key.{name as #export}
 use Rattle.export_buffer.proofs.lintelsong_buffer_set_up as f
 use Rattle.export_buffer.proofs.lintelsong_buffer_set_up.Statement as stated
@@ -248,4 +248,4 @@ lintelsong-buffer-set-up-spec 𝓤 H 𝓜 𝓖 𝓡 =
     entered 𝓤 H (tripleOf 𝓤 H (𝓖 .A) f.signature (f.spec 𝓤 H (𝓖 .A) (𝓜 .mem) (𝓡 .run)))
     (tables 𝓤 H 𝓜 𝓡 code.env .C) (tables 𝓤 H 𝓜 𝓡 code.env .Λ) #export code.function (code.unfolded 𝓤 H 𝓜 𝓡)
     (lintelsong-buffer-set-up-meets 𝓤 H (𝓖 .A) (givenOf 𝓤 H 𝓜 𝓖) (𝓜 .mem) (𝓡 .run) (tablesOf 𝓤 H 𝓜 (tables 𝓤 H 𝓜 𝓡 code.env))
-    (cited 𝓤 H (Core 𝓤 H (𝓖 .A) (𝓜 .mem) (𝓡 .run)) 𝓜 𝓡 code.env #core core-def.routine code.calls-export-buffer·cores·set-up (core-thm.met 𝓤 H 𝓜 𝓖 𝓡)))
+    (cited 𝓤 H (Core 𝓤 H (𝓖 .A) (𝓜 .mem) (𝓡 .run)) 𝓜 𝓡 code.env #core core-def.routine code.calls-buffer-cores·set-up (core-thm.met 𝓤 H 𝓜 𝓖 𝓡)))

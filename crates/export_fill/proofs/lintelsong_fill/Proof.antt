@@ -46,7 +46,8 @@ use lib.ListN.{length}
 use Rattle.queues.specs.Cols.{cols}
 use Rattle.slots.specs.Table.{table}
 use Rattle.fill_rules.specs.Fills.{callOf, keys, left}
-use Rattle.fill_cores.specs.Lent.{filterBy, FillsBy}
+use Rattle.fill_answer.specs.Answers.{filterBy}
+use Rattle.fill_cores.specs.Lent.{FillsBy}
 use Rattle.export_fill.specs.Held.{colsOf, tableOf, GoodBuffer, GoodGroup, GoodSet}
 use Rattle.export_fill.specs.declared.Buffer.{Buffer}
 use Rattle.export_fill.proofs.Buffer as Buffer

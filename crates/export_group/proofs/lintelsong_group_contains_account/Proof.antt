@@ -42,7 +42,7 @@ use denote.Triple.Table.{entered, cited}
 use denote.Triple.Walked.{says, needs, Stays, stay-ref, stay-none-ref, walkOf, goes-ref, goes-none-ref, Walks, ends-at, walked, walk-meets}
 use mathlib.Core.Path.{_∙_}
 use Rattle.group_rules.proofs.GroupLook.{contains-told}
-use Rattle.group_seen.specs.Lent.{holds}
+use Rattle.accounts_seen.specs.Accounts.{holds}
 use Rattle.group_seen.proofs.Looks.{accounts-in}
 use Rattle.export_parts.specs.Parts.{bit}
 use Rattle.export_group.specs.Held.{tableOf, GoodGroup}

@@ -42,7 +42,7 @@ use denote.Triple.Walked.{says, needs, Stays, stay-ref, gave-ref, walkOf, goes-r
 use mathlib.Core.Path.{_∙_}
 use Rattle.group_reads.specs.Lent.{countsIn}
 use Rattle.group_reads.proofs.Looks.{counts-seen}
-use Rattle.group_cores.specs.Told.{listed}
+use Rattle.group_parts.specs.Told.{listed}
 use Rattle.export_group.specs.Held.{tableOf, GoodGroup}
 use Rattle.export_group.specs.declared.Group.{Group}
 use Rattle.export_group.proofs.Group as Group

@@ -41,7 +41,7 @@ use denote.Triple.Table.{entered, cited}
 use denote.Triple.Walked.{says, needs, Stays, stay-ref, gave-ref, walkOf, goes-ref, goes-gave-ref, Walks, ends-at, walked, walk-meets}
 use Rattle.group_reads.specs.Lent.{lastIn}
 use Rattle.group_reads.proofs.Looks.{last-seen}
-use Rattle.group_cores.specs.Told.{ToldId}
+use Rattle.group_parts.specs.Told.{ToldId}
 use Rattle.group_cores.proofs.Answers.{same-id}
 use Rattle.export_group.specs.Held.{tableOf, GoodGroup}
 use Rattle.export_group.specs.declared.Group.{Group}

@@ -40,7 +40,7 @@ use denote.Triple.Call.{calls-at}
 use denote.Triple.Clauses.{ensured, lasts}
 use denote.Triple.Table.{entered, cited}
 use denote.Triple.Walked.{says, needs, Stays, stay-ref, stay-none, stay-none-ref, gave-ref, walkOf, goes-none, goes-ref, goes-none-ref, goes-gave-ref, Walks, ends-at, walked, walk-meets}
-use Rattle.group_seen.specs.Lent.{messageFound, rowFor}
+use Rattle.messages_seen.specs.Messages.{rowFor, messageFound}
 use Rattle.group_seen.proofs.Looks.{message-seen, accounts-in, messages-in}
 use Rattle.export_parts.specs.Parts.{ToldMessage}
 use Rattle.group_cores.proofs.Answers.{same-message}

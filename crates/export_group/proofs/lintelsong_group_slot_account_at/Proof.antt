@@ -42,7 +42,7 @@ use denote.Triple.Table.{entered, cited}
 use denote.Triple.Walked.{says, needs, Stays, stay-ref, stay-none, gave-ref, walkOf, goes-none, goes-ref, goes-gave-ref, Walks, ends-at, walked, walk-meets}
 use lib.ListN.{getD}
 use Rattle.queues.specs.Look.{rowOf}
-use Rattle.group_seen.specs.Lent.{accountFound}
+use Rattle.accounts_seen.specs.Accounts.{accountFound}
 use Rattle.group_seen.proofs.Looks.{slot-account-seen, accounts-in}
 use Rattle.export_parts.specs.Parts.{Told}
 use Rattle.group_cores.proofs.Answers.{same-account}

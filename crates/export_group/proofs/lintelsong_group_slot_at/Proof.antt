@@ -40,9 +40,9 @@ use denote.Triple.Call.{calls-at}
 use denote.Triple.Clauses.{ensured, lasts}
 use denote.Triple.Table.{entered, cited}
 use denote.Triple.Walked.{says, needs, Stays, stay-ref, stay-none, gave-ref, walkOf, goes-none, goes-ref, goes-gave-ref, Walks, ends-at, walked, walk-meets}
-use Rattle.group_seen.specs.Lent.{slotFound}
+use Rattle.slots_seen.specs.Slots.{slotFound}
 use Rattle.group_seen.proofs.Looks.{slot-seen, slots-in}
-use Rattle.group_cores.specs.Told.{ToldSlot}
+use Rattle.group_parts.specs.Told.{ToldSlot}
 use Rattle.group_cores.proofs.Answers.{same-slot}
 use Rattle.export_group.specs.Held.{tableOf, GoodGroup}
 use Rattle.export_group.specs.declared.Group.{Group}

@@ -1,5 +1,5 @@
 -- `lintelsong_group_join` meets its contract: a walk of its code. Each struct is taken apart, what it lends goes to
--- `cores::join` for lifetimes of the call and comes back, and the struct is put together. Of the core it knows the contract alone.
+-- `join_cores::join` for lifetimes of the call and comes back, and the struct is put together. Of the core it knows the contract alone.
 -- Written by tools/walks.py. Assumes nothing.
 use mathlib.Core.Path.{refl, ap}
 use Prim.Native.Nat.{ℕ, _<_, _^_, _+_}
@@ -40,15 +40,15 @@ use denote.Triple.Clauses.{ensured, lasts}
 use denote.Triple.Table.{entered, cited}
 use denote.Triple.Walked.{says, needs, Stays, stay-ref, walkOf, goes-ref, Walks, ends-at, walked, walk-meets}
 use Rattle.slots.specs.Table.{table}
-use Rattle.export_join.specs.Lent.{Joins}
+use Rattle.join_cores.specs.Lent.{Joins}
 use Rattle.export_join.specs.Held.{tableOf, GoodGroup}
 use Rattle.export_join.specs.declared.Group.{Group}
 use Rattle.export_join.proofs.Group as Group
 use Rattle.export_join.proofs.GroupApart.{Back as GroupBack, group-apart, group-together}
-use Rattle.export_join.proofs.cores.join as core
-use Rattle.export_join.proofs.cores.join.Symbol as core-def
-use Rattle.export_join.proofs.cores.join.Symbol.{name as #core}
-use Rattle.export_join.proofs.cores.join.Met as core-thm
+use Rattle.join_cores.proofs.join as core
+use Rattle.join_cores.proofs.join.Symbol as core-def
+use Rattle.join_cores.proofs.join.Symbol.{name as #core}
+use Rattle.join_cores.proofs.join.Met as core-thm
 use Rattle.export_join.proofs.lintelsong_group_join.Key.{name as #export}
 use Rattle.export_join.proofs.lintelsong_group_join as f
 use Rattle.export_join.proofs.lintelsong_group_join.Statement as stated
@@ -438,4 +438,4 @@ lintelsong-group-join-spec 𝓤 H 𝓜 𝓖 𝓡 =
     entered 𝓤 H (tripleOf 𝓤 H (𝓖 .A) f.signature (f.spec 𝓤 H (𝓖 .A) (𝓜 .mem) (𝓡 .run)))
     (tables 𝓤 H 𝓜 𝓡 code.env .C) (tables 𝓤 H 𝓜 𝓡 code.env .Λ) #export code.function (code.unfolded 𝓤 H 𝓜 𝓡)
     (lintelsong-group-join-meets 𝓤 H (𝓖 .A) (givenOf 𝓤 H 𝓜 𝓖) (𝓜 .mem) (𝓡 .run) (tablesOf 𝓤 H 𝓜 (tables 𝓤 H 𝓜 𝓡 code.env))
-    (cited 𝓤 H (Core 𝓤 H (𝓖 .A) (𝓜 .mem) (𝓡 .run)) 𝓜 𝓡 code.env #core core-def.routine code.calls-export-join·cores·join (core-thm.met 𝓤 H 𝓜 𝓖 𝓡)))
+    (cited 𝓤 H (Core 𝓤 H (𝓖 .A) (𝓜 .mem) (𝓡 .run)) 𝓜 𝓡 code.env #core core-def.routine code.calls-join-cores·join (core-thm.met 𝓤 H 𝓜 𝓖 𝓡)))

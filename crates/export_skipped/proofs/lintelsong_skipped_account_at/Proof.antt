@@ -1,5 +1,5 @@
 -- `lintelsong_skipped_account_at` meets its contract: a walk of its code. Each struct is taken apart, what it lends goes to
--- `cores::account_at` for lifetimes of the call and comes back, and the struct is put together. Of the core it knows the contract alone.
+-- `skipped_cores::account_at` for lifetimes of the call and comes back, and the struct is put together. Of the core it knows the contract alone.
 -- Written by tools/walks.py. Assumes nothing.
 use mathlib.Core.Path.{refl, ap}
 use Prim.Native.Nat.{ℕ, _<_, _^_, _+_}
@@ -47,10 +47,10 @@ use Rattle.export_skipped.specs.Held.{GoodSet, accountsIn}
 use Rattle.export_skipped.specs.declared.Skipped.{Skipped}
 use Rattle.export_skipped.proofs.Skipped as Skipped
 use Rattle.export_skipped.proofs.SkippedApart.{Back as SkippedBack, skipped-apart, skipped-together}
-use Rattle.export_skipped.proofs.cores.account_at as core
-use Rattle.export_skipped.proofs.cores.account_at.Symbol as core-def
-use Rattle.export_skipped.proofs.cores.account_at.Symbol.{name as #core}
-use Rattle.export_skipped.proofs.cores.account_at.Met as core-thm
+use Rattle.skipped_cores.proofs.account_at as core
+use Rattle.skipped_cores.proofs.account_at.Symbol as core-def
+use Rattle.skipped_cores.proofs.account_at.Symbol.{name as #core}
+use Rattle.skipped_cores.proofs.account_at.Met as core-thm
 use Rattle.export_skipped.proofs.lintelsong_skipped_account_at.Key.{name as #export}
 use Rattle.export_skipped.proofs.lintelsong_skipped_account_at as f
 use Rattle.export_skipped.proofs.lintelsong_skipped_account_at.Statement as stated
@@ -198,4 +198,4 @@ lintelsong-skipped-account-at-spec 𝓤 H 𝓜 𝓖 𝓡 =
     entered 𝓤 H (tripleOf 𝓤 H (𝓖 .A) f.signature (f.spec 𝓤 H (𝓖 .A) (𝓜 .mem) (𝓡 .run)))
     (tables 𝓤 H 𝓜 𝓡 code.env .C) (tables 𝓤 H 𝓜 𝓡 code.env .Λ) #export code.function (code.unfolded 𝓤 H 𝓜 𝓡)
     (lintelsong-skipped-account-at-meets 𝓤 H (𝓖 .A) (givenOf 𝓤 H 𝓜 𝓖) (𝓜 .mem) (𝓡 .run) (tablesOf 𝓤 H 𝓜 (tables 𝓤 H 𝓜 𝓡 code.env))
-    (cited 𝓤 H (Core 𝓤 H (𝓖 .A) (𝓜 .mem) (𝓡 .run)) 𝓜 𝓡 code.env #core core-def.routine code.calls-export-skipped·cores·account-at (core-thm.met 𝓤 H 𝓜 𝓖 𝓡)))
+    (cited 𝓤 H (Core 𝓤 H (𝓖 .A) (𝓜 .mem) (𝓡 .run)) 𝓜 𝓡 code.env #core core-def.routine code.calls-skipped-cores·account-at (core-thm.met 𝓤 H 𝓜 𝓖 𝓡)))

@@ -1,5 +1,5 @@
 -- `lintelsong_skipped_len` meets its contract: a walk of its code. Each struct is taken apart, what it lends goes to
--- `cores::len` for lifetimes of the call and comes back, and the struct is put together. Of the core it knows the contract alone.
+-- `skipped_cores::len` for lifetimes of the call and comes back, and the struct is put together. Of the core it knows the contract alone.
 -- Written by tools/walks.py. Assumes nothing.
 use mathlib.Core.Path.{_≡_, refl, ap}
 use Prim.Native.Nat.{ℕ, _<_, _^_, _+_}
@@ -45,10 +45,10 @@ use Rattle.export_skipped.specs.Held.{GoodSet}
 use Rattle.export_skipped.specs.declared.Skipped.{Skipped}
 use Rattle.export_skipped.proofs.Skipped as Skipped
 use Rattle.export_skipped.proofs.SkippedApart.{Back as SkippedBack, skipped-apart, skipped-together}
-use Rattle.export_skipped.proofs.cores.len as core
-use Rattle.export_skipped.proofs.cores.len.Symbol as core-def
-use Rattle.export_skipped.proofs.cores.len.Symbol.{name as #core}
-use Rattle.export_skipped.proofs.cores.len.Met as core-thm
+use Rattle.skipped_cores.proofs.len as core
+use Rattle.skipped_cores.proofs.len.Symbol as core-def
+use Rattle.skipped_cores.proofs.len.Symbol.{name as #core}
+use Rattle.skipped_cores.proofs.len.Met as core-thm
 use Rattle.export_skipped.proofs.lintelsong_skipped_len.Key.{name as #export}
 use Rattle.export_skipped.proofs.lintelsong_skipped_len as f
 use Rattle.export_skipped.proofs.lintelsong_skipped_len.Statement as stated
@@ -186,4 +186,4 @@ lintelsong-skipped-len-spec 𝓤 H 𝓜 𝓖 𝓡 =
     entered 𝓤 H (tripleOf 𝓤 H (𝓖 .A) f.signature (f.spec 𝓤 H (𝓖 .A) (𝓜 .mem) (𝓡 .run)))
     (tables 𝓤 H 𝓜 𝓡 code.env .C) (tables 𝓤 H 𝓜 𝓡 code.env .Λ) #export code.function (code.unfolded 𝓤 H 𝓜 𝓡)
     (lintelsong-skipped-len-meets 𝓤 H (𝓖 .A) (givenOf 𝓤 H 𝓜 𝓖) (𝓜 .mem) (𝓡 .run) (tablesOf 𝓤 H 𝓜 (tables 𝓤 H 𝓜 𝓡 code.env))
-    (cited 𝓤 H (Core 𝓤 H (𝓖 .A) (𝓜 .mem) (𝓡 .run)) 𝓜 𝓡 code.env #core core-def.routine code.calls-export-skipped·cores·len (core-thm.met 𝓤 H 𝓜 𝓖 𝓡)))
+    (cited 𝓤 H (Core 𝓤 H (𝓖 .A) (𝓜 .mem) (𝓡 .run)) 𝓜 𝓡 code.env #core core-def.routine code.calls-skipped-cores·len (core-thm.met 𝓤 H 𝓜 𝓖 𝓡)))

@@ -1,5 +1,5 @@
 -- `lintelsong_skipped_set_up` meets its contract: a walk of its code. Each struct is taken apart, what it lends goes to
--- `cores::set_up` for lifetimes of the call and comes back, and the struct is put together. Of the core it knows the contract alone.
+-- `skipped_cores::set_up` for lifetimes of the call and comes back, and the struct is put together. Of the core it knows the contract alone.
 -- Written by tools/walks.py. Assumes nothing.
 use mathlib.Core.Path.{_≡_, refl, ap}
 use Prim.Native.Nat.{ℕ, _<_, _^_, _+_}
@@ -44,10 +44,10 @@ use Rattle.skipped.specs.Sets.{GoodRows}
 use Rattle.export_skipped.specs.declared.Skipped.{Skipped}
 use Rattle.export_skipped.proofs.Skipped as Skipped
 use Rattle.export_skipped.proofs.SkippedApart.{Back as SkippedBack, skipped-apart, skipped-together}
-use Rattle.export_skipped.proofs.cores.set_up as core
-use Rattle.export_skipped.proofs.cores.set_up.Symbol as core-def
-use Rattle.export_skipped.proofs.cores.set_up.Symbol.{name as #core}
-use Rattle.export_skipped.proofs.cores.set_up.Met as core-thm
+use Rattle.skipped_cores.proofs.set_up as core
+use Rattle.skipped_cores.proofs.set_up.Symbol as core-def
+use Rattle.skipped_cores.proofs.set_up.Symbol.{name as #core}
+use Rattle.skipped_cores.proofs.set_up.Met as core-thm
 use Rattle.export_skipped.proofs.lintelsong_skipped_set_up.Key.{name as #export}
 use Rattle.export_skipped.proofs.lintelsong_skipped_set_up as f
 use Rattle.export_skipped.proofs.lintelsong_skipped_set_up.Statement as stated
@@ -190,4 +190,4 @@ lintelsong-skipped-set-up-spec 𝓤 H 𝓜 𝓖 𝓡 =
     entered 𝓤 H (tripleOf 𝓤 H (𝓖 .A) f.signature (f.spec 𝓤 H (𝓖 .A) (𝓜 .mem) (𝓡 .run)))
     (tables 𝓤 H 𝓜 𝓡 code.env .C) (tables 𝓤 H 𝓜 𝓡 code.env .Λ) #export code.function (code.unfolded 𝓤 H 𝓜 𝓡)
     (lintelsong-skipped-set-up-meets 𝓤 H (𝓖 .A) (givenOf 𝓤 H 𝓜 𝓖) (𝓜 .mem) (𝓡 .run) (tablesOf 𝓤 H 𝓜 (tables 𝓤 H 𝓜 𝓡 code.env))
-    (cited 𝓤 H (Core 𝓤 H (𝓖 .A) (𝓜 .mem) (𝓡 .run)) 𝓜 𝓡 code.env #core core-def.routine code.calls-export-skipped·cores·set-up (core-thm.met 𝓤 H 𝓜 𝓖 𝓡)))
+    (cited 𝓤 H (Core 𝓤 H (𝓖 .A) (𝓜 .mem) (𝓡 .run)) 𝓜 𝓡 code.env #core core-def.routine code.calls-skipped-cores·set-up (core-thm.met 𝓤 H 𝓜 𝓖 𝓡)))

@@ -1,6 +1,6 @@
 -- `fill_cores::fill` meets its contract: the fill's own, with its answer in numbers. Assumes nothing.
 use borrow.Author.Needs.{needs}
-use mathlib.Core.Path.{_≡_, refl, subst}
+use mathlib.Core.Path.{_≡_, subst}
 use Rattle.message.specs.declared.Filter.{Filter}
 use Rattle.queues.specs.Cols.{cols}
 use Rattle.entry_rules.specs.Calling.{Call}
@@ -27,11 +27,11 @@ returns c =
     record {
       answer = says (r .code) (r .collected) (r .operations) (r .dropped);
       code = c .number-of .ensures;
-      counts = refl;
+      counts = c .before .counts .ensures;
       fills = with-filter v (f .filter-by .ensures) (d .fill .ensures);
     }
 
 pub fill-spec : {M : Type 1} → statement M
 fill-spec =
     tie.close
-    (tie.spec (λ c κs. search needs) (λ c κs. search needs) (λ c κs. search needs) (λ c. search needs) (λ c. search needs) returns)
+    (tie.spec (λ c κs. search needs) (λ c κs. search needs) (λ c κs. search needs) (λ c κs. search needs) (λ c. search needs) (λ c. search needs) returns)

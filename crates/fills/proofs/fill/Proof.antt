@@ -5,7 +5,7 @@ use Rattle.queues.specs.Cols.{cols}
 use Rattle.entry_rules.specs.Calling.{Call}
 use Rattle.slots.specs.Table.{table}
 use Rattle.fill_rules.specs.Fills.{callOf, Keys, keys, codeOf}
-use Rattle.fills.proofs.Whole.{spoken, Called, may-decide, decided, refused, Taken, stood, pass-needs, settle-needs, filled}
+use Rattle.fills.proofs.Whole.{spoken, Called, may-decide, decided, refused, Taken, stood, pass-needs, settle-needs, filled, told}
 use Rattle.fills.proofs.fill.Statement.{statement}
 use Rattle.fills.proofs.fill.Tie as tie
 
@@ -82,21 +82,22 @@ settle-requires c κs =
 
 -- the end keeps the lengths of the key list's columns
 same-length-5 : tie.Need-same-length-5
-same-length-5 c = c .before .before .before .before .before .settle .kept .1 .1 .1 .1 .1 .1 .1 .1 .1 .1 .1 .1 .1 .1 .1 .1 .1 .1 .1 .1 .1 .1 .1 .1 .1 .0
+same-length-5 c = c .before .before .before .before .before .before .settle .kept .1 .1 .1 .1 .1 .1 .1 .1 .1 .1 .1 .1 .1 .1 .1 .1 .1 .1 .1 .1 .1 .1 .1 .1 .1 .0
 
 same-length-6 : tie.Need-same-length-6
-same-length-6 c = c .before .before .before .before .before .settle .kept .1 .1 .1 .1 .1 .1 .1 .1 .1 .1 .1 .1 .1 .1 .1 .1 .1 .1 .1 .1 .1 .1 .1 .1 .1 .1 .0
+same-length-6 c = c .before .before .before .before .before .before .settle .kept .1 .1 .1 .1 .1 .1 .1 .1 .1 .1 .1 .1 .1 .1 .1 .1 .1 .1 .1 .1 .1 .1 .1 .1 .1 .1 .0
 
 returns-3 : tie.Need-returns-3
 returns-3 c =
-    let d = c .before .before .before .before .before in
+    let d = c .before .before .before .before .before .before in
     let r = passed (d .before) in
     let o = opened (r .before) in
-    filled (taken (o .before .before)) _ (o .to-open .ensures) (r .pass .result) (r .pass .ensures) (d .settle .ensures)
+    told (r .pass .result .tally) _ (c .answer-of .ensures)
+    (filled (taken (o .before .before)) _ (o .to-open .ensures) (r .pass .result) (r .pass .ensures) (d .settle .ensures))
 
 pub fill-spec : {M : Type 1} → statement M
 fill-spec =
     tie.close
     (tie.spec (λ c κs. search needs) (λ c κs. search needs) decide-requires (λ c κs. search needs) (λ c. search needs) (λ c. search needs) returns
     (λ c. search needs) (λ c κs. search needs) (λ c. search needs) (λ c κs. search needs) (λ c. search needs) (λ c. search needs) returns-2
-    pass-requires settle-requires same-length-5 same-length-6 returns-3)
+    pass-requires settle-requires (λ c κs. search needs) same-length-5 same-length-6 returns-3)

@@ -1,6 +1,6 @@
 -- `openings::first` meets its contract: what the openings that are left make of the columns now is what all of them make of those at entry;
 -- no more slots wait than were opened. Assumes nothing.
-use mathlib.Core.Path.{refl}
+use mathlib.Core.Path.{refl, ap}
 use mathlib.Core.Logic.{⊎-elim}
 use mathlib.Core.List.{[]}
 use native.Mathlib.Nat.{not-suc-le-zero}
@@ -9,21 +9,22 @@ use borrow.Author.Needs.{needs}
 use borrow.Author.Tests.{not-true, not-false}
 use Rattle.meaning.specs.Meaning.{columns}
 use Rattle.meaning.specs.Passes.{firstC}
+use Rattle.new_slots.specs.declared.Front.{Front}
 use Rattle.openings.proofs.Steps.{First, first-end, sought, first-drops, first-full, first-waits}
 use Rattle.openings.proofs.first.Statement.{statement}
 use Rattle.openings.proofs.first.Tie as tie
 
 abbrev Inv-loop : tie.InvT-loop
-Inv-loop owner₀ plan taken₀ home₀ member₀ ints₀ exts₀ mark₀ cost joined₀ number₀ fixed opens slots line₀ tail₀ left₀ at₀ now₀ slot₀ given₀ owner
-    taken home member ints exts mark joined number line tail left at now slot given =
-    First plan cost fixed (firstC plan cost fixed opens [] number₀ slots given₀ 0
+Inv-loop owner₀ plan taken₀ home₀ member₀ ints₀ exts₀ mark₀ cost joined₀ number₀ fixed opens slots line₀ tail₀ at₀ now₀ front₀ owner
+    taken home member ints exts mark joined number line tail at now front =
+    First plan cost fixed (firstC plan cost fixed opens [] number₀ slots (front₀ .given) 0
     (columns owner₀ taken₀ home₀ member₀ ints₀ exts₀ mark₀ joined₀ now₀))
-    line tail left number slot given at (columns owner taken home member ints exts mark joined now)
+    line tail (front .left) number (front .slot) (front .given) at (columns owner taken home member ints exts mark joined now)
 
 abbrev μ-loop : tie.MeasureT-loop
-μ-loop owner₀ plan taken₀ home₀ member₀ ints₀ exts₀ mark₀ cost joined₀ number₀ fixed opens slots line₀ tail₀ left₀ at₀ now₀ slot₀ given₀ owner taken
-    home member ints exts mark joined number line tail left at now slot given =
-    left
+μ-loop owner₀ plan taken₀ home₀ member₀ ints₀ exts₀ mark₀ cost joined₀ number₀ fixed opens slots line₀ tail₀ at₀ now₀ front₀ owner taken
+    home member ints exts mark joined number line tail at now front =
+    front .left
 
 loop-holds : tie.Need-loop-holds Inv-loop μ-loop
 loop-holds c = record {
@@ -37,147 +38,98 @@ loop-holds c = record {
   slots = λ q l. absurd (not-suc-le-zero l);
 }
 
-cast-number : tie.Need-cast-number Inv-loop μ-loop
-cast-number c = omega (arith, c .before .loop .inv .high, c .loop-test .taken)
-
-cast-t46 : tie.Need-cast-t46 Inv-loop μ-loop
-cast-t46 c = omega (
-  arith,
-  c .before .before .before .before .before .before .before .before .before .before .before .before .before .before .before
-      .loop .inv .high,
-  c .before .before .before .before .before .before .before .before .before .before .before .before .before .before .loop-test
-      .taken,
-)
-
-cast-t63 : tie.Need-cast-t63 Inv-loop μ-loop
-cast-t63 c = omega (arith, c .before .before .before .before .before .before .before .before .before .before .before .before .loop .inv .high)
-
-add-id : tie.Need-add-id Inv-loop μ-loop
-add-id c = omega (arith, c .before .loop .inv .high, c .loop-test .taken)
+next-number-requires : tie.Need-next-number-requires Inv-loop μ-loop
+next-number-requires c κs =
+    let v = c .before .before .loop .inv in
+    (omega (arith, v .room, c .if1 .taken), omega (arith, v .high, c .if1 .taken))
 
 element-write-number : tie.Need-element-write-number Inv-loop μ-loop
-element-write-number c = omega (arith, c .before .loop .inv .room, c .loop-test .taken)
+element-write-number c = omega (arith, c .before .before .before .loop .inv .room, c .before .if1 .taken)
 
 seek-requires : tie.Need-seek-requires Inv-loop μ-loop
 seek-requires c κs =
-    let v = c .before .before .before .before .before .before .before .before .before .loop .inv in
-    (v .ready, omega (arith, v .room, c .before .before .before .before .before .before .before .before .loop-test .taken))
+    let v = c .before .before .before .before .before .before .before .before .before .before .before .loop .inv in
+    (v .ready, omega (arith, v .room, c .before .before .before .before .before .before .before .before .before .if1 .taken))
 
 held-requires : tie.Need-held-requires Inv-loop μ-loop
 held-requires c κs =
-    let v = c .before .before .before .before .before .before .before .before .before .before .before .before .before .loop .inv in
-    let l = c .before .before .before .before .before .before .before .before .before .before .before .before .loop-test .taken in
+    let v = c .before .before .before .before .before .before .before .before .before .before .before .before .before .before .before .loop .inv in
+    let l = c .before .before .before .before .before .before .before .before .before .before .before .before .before .if1 .taken in
     let ready = sought v l (c .before .before .before .seek .ensures) in
     (omega (arith, v .room, l), (ready .good .store .ints-long, ready .good .store .exts-long))
 
 element-write-number-2 : tie.Need-element-write-number-2 Inv-loop μ-loop
-element-write-number-2 c = omega (
-  arith,
-  c .before .before .before .before .before .before .before .before .before .before .before .before .before
-      .before .before .loop .inv .room,
-  c .before .before .before .before .before .before .before .before .before .before .before .before .before
-      .before .loop-test .taken,
-)
+element-write-number-2 c = omega (arith, c .before .before .before .before .before .before .before .before .before .before .before .before .before .before .before .before .before .loop .inv .room, c .before .before .before .before .before .before .before .before .before .before .before .before .before .before .before .if1 .taken)
+
+dropped-requires : tie.Need-dropped-requires Inv-loop μ-loop
+dropped-requires c κs = omega (arith, c .before .before .before .before .before .before .before .before .before .before .before .before .before .before .before .before .before .loop .inv .high, c .before .before .before .before .before .before .before .before .before .before .before .before .before .before .before .if1 .taken)
 
 returns : tie.Need-returns Inv-loop μ-loop
 returns c =
-    rw (c .before .before .before .before .before .before .before .before .before .before .before .before .before .before .before .before .wide16
-    .ensures .0) at
-    (first-drops (c .before .before .before .before .before .before .before .before .before .before .before .before .before .before .before .loop
-    .inv) (c .before .before .before .before .before .before .before .before .before .before .before .before .before .before .loop-test .taken)
-    (c .before .before .before .before .before .seek .ensures) (c .before .held .ensures)
-    (c .if1 .taken))
+    rw (c .dropped .ensures, c .before .before .before .before .before .before .before .before .before .before .before .before .before .before .before .next-number .ensures)
+    (rw (c .before .before .before .before .before .before .before .before .before .before .before .before .before .before .before .before .before .before .before .wide16 .ensures .0) at
+    (first-drops (c .before .before .before .before .before .before .before .before .before .before .before .before .before .before .before .before .before .before .loop .inv) (c .before .before .before .before .before .before .before .before .before .before .before .before .before .before .before .before .if1 .taken)
+    (c .before .before .before .before .before .before .seek .ensures) (c .before .before .held .ensures) (c .before .if2 .taken)))
 
 full-requires : tie.Need-full-requires Inv-loop μ-loop
 full-requires c κs =
-    let v = c .before .before .before .before .before .before .before .before .before .before .before .before .before .before .before .before .before
-    .loop .inv in
-    let l = c .before .before .before .before .before .before .before .before .before .before .before .before .before .before .before .before
-    .loop-test .taken in
+    let v = c .before .before .before .before .before .before .before .before .before .before .before .before .before .before .before .before .before .before .before .loop .inv in
+    let l = c .before .before .before .before .before .before .before .before .before .before .before .before .before .before .before .before .before .if1 .taken in
     let ready = sought v l (c .before .before .before .before .before .before .before .seek .ensures) in
     (omega (arith, v .room, l), (ready .good .store .ints-long, ready .good .store .exts-long))
 
 cast-line : tie.Need-cast-line Inv-loop μ-loop
-cast-line c = omega (
-  arith,
-  c .before .before .before .before .before .before .before .before .before .before .before .before .before .before .before
-      .before .before .before .before .loop .inv .room,
-  c .before .before .before .before .before .before .before .before .before .before .before
-      .before .before .before .before .before .before .before .loop-test .taken,
-)
+cast-line c = omega (arith, c .before .before .before .before .before .before .before .before .before .before .before .before .before .before .before .before .before .before .before .before .before .loop .inv .room, c .before .before .before .before .before .before .before .before .before .before .before .before .before .before .before .before .before .before .before .if1 .taken)
 
 array-write-line : tie.Need-array-write-line Inv-loop μ-loop
-array-write-line c = omega (
-  arith,
-  c .before .before .before .before .before .before .before .before .before .before .before .before .before .before
-      .before .before .before .before .before .loop .inv .room,
-  c .before .before .before .before .before .before .before .before .before .before
-      .before .before .before .before .before .before .before .before .before .loop .inv .fits,
-)
+array-write-line c =
+    let v = c .before .before .before .before .before .before .before .before .before .before .before .before .before .before .before .before .before .before .before .before .before .loop .inv in
+    omega (arith, v .room, v .fits)
 
 add-tail : tie.Need-add-tail Inv-loop μ-loop
-add-tail c = omega (
-  arith,
-  c .before .before .before .before .before .before .before .before .before .before .before .before .before .before .before
-      .before .before .before .before .loop .inv .room,
-  c .before .before .before .before .before .before .before .before .before .before .before
-      .before .before .before .before .before .before .before .before .loop .inv .fits,
-)
+add-tail c =
+    let v = c .before .before .before .before .before .before .before .before .before .before .before .before .before .before .before .before .before .before .before .before .before .loop .inv in
+    omega (arith, v .room, v .fits)
 
-add-slot : tie.Need-add-slot Inv-loop μ-loop
-add-slot c = omega (
-  arith,
-  c .before .before .before .before .before .before .before .before .before .before .before .before .before .before .before
-      .before .before .before .before .loop .inv .room,
-)
-
-sub-left : tie.Need-sub-left Inv-loop μ-loop
-sub-left c = omega (
-  arith,
-  c .before .before .before .before .before .before .before .before .before .before .before .before .before .before .before
-      .before .before .before .loop-test .taken,
-)
+onward-requires : tie.Need-onward-requires Inv-loop μ-loop
+onward-requires c κs =
+    let v = c .before .before .before .before .before .before .before .before .before .before .before .before .before .before .before .before .before .before .before .before .before .loop .inv in
+    let l = c .before .before .before .before .before .before .before .before .before .before .before .before .before .before .before .before .before .before .before .if1 .taken in
+    (omega (arith, v .room, l), omega (arith, v .high, l), l)
 
 loop-less : tie.Need-loop-less Inv-loop μ-loop
-loop-less c = omega (
-  arith,
-  c .before .before .before .before .before .before .before .before .before .before .before .before .before .before .before
-      .before .before .before .loop-test .taken,
-)
+loop-less c = omega (arith, c .before .before .before .before .before .before .before .before .before .before .before .before .before .before .before .before .before .before .before .before .if1 .taken, ap (λ (x : Front). x .left) (c .onward .ensures))
 
 loop-again : tie.Need-loop-again Inv-loop μ-loop
 loop-again c =
-    let v = c .before .before .before .before .before .before .before .before .before .before .before .before .before .before .before .before .before
-    .before .before .loop .inv in
-    let l = c .before .before .before .before .before .before .before .before .before .before .before .before .before .before .before .before .before
-    .before .loop-test .taken in
+    let v = c .before .before .before .before .before .before .before .before .before .before .before .before .before .before .before .before .before .before .before .before .before .before .loop .inv in
+    let l = c .before .before .before .before .before .before .before .before .before .before .before .before .before .before .before .before .before .before .before .before .if1 .taken in
+    let n = c .before .before .before .before .before .before .before .before .before .before .before .before .before .before .before .before .before .before .before .next-number .ensures in
     ⊎-elim
-    (λ w. rw (w .1, w .2)
-    (first-waits v l (c .before .before .before .before .before .before .before .before .before .seek .ensures)
-    (c .before .before .before .before .before .held .ensures) (c .before .before .before .before .if1 .left) (c .before .full .ensures)
+    (λ w. rw (c .onward .ensures, n, w .1, w .2)
+    (first-waits v l (c .before .before .before .before .before .before .before .before .before .before .seek .ensures) (c .before .before .before .before .before .before .held .ensures) (c .before .before .before .before .before .if2 .left) (c .before .before .full .ensures)
     (not-true _ (w .0 .taken))))
-    (λ w. rw (w .1, w .2)
-    (first-full v l (c .before .before .before .before .before .before .before .before .before .seek .ensures)
-    (c .before .before .before .before .before .held .ensures) (c .before .before .before .before .if1 .left) (c .before .full .ensures)
+    (λ w. rw (c .onward .ensures, n, w .1, w .2)
+    (first-full v l (c .before .before .before .before .before .before .before .before .before .before .seek .ensures) (c .before .before .before .before .before .before .held .ensures) (c .before .before .before .before .before .if2 .left) (c .before .before .full .ensures)
     (not-false _ (w .0 .left))))
-    (c .if2 .came)
+    (c .before .if3 .came)
 
 serve-requires : tie.Need-serve-requires Inv-loop μ-loop
 serve-requires c κs =
-    let v = c .before .before .before .before .before .before .before .before .before .before .loop .inv in
+    let v = c .before .before .before .before .before .before .before .before .before .before .before .loop .inv in
     (v .ready, ((v .long, omega (arith, v .fits, v .room)), v .slots))
+
+cast-t60 : tie.Need-cast-t60 Inv-loop μ-loop
+cast-t60 c = omega (arith, c .before .before .before .before .before .before .before .before .before .before .before .before .before .before .loop .inv .high)
 
 returns-2 : tie.Need-returns-2 Inv-loop μ-loop
 returns-2 c =
-    rw (c .before .before .before .before .before .before .before .before .before .before .before .before .before .wide16 .ensures .0) at
-    (first-end (c .before .before .before .before .before .before .before .before .before .before .before .before .loop .inv)
-    (omega (arith, c .before .before .before .before .before .before .before .before .before .before .before .loop-test .left))
-    (c .before .serve .ensures))
+    rw (c .before .before .before .before .before .before .before .before .before .before .before .before .before .before .before .wide16 .ensures .0) at
+    (first-end (c .before .before .before .before .before .before .before .before .before .before .before .before .before .before .loop .inv) (omega (arith, c .before .before .before .before .before .before .before .before .before .before .before .before .if1 .left)) (c .before .before .serve .ensures))
 
 pub first-spec : {M : Type 1} → statement M
 first-spec =
     tie.close
-    (tie.spec Inv-loop μ-loop (λ c κs. search needs) loop-holds add-id cast-number (λ c. search needs) element-write-number seek-requires
-    held-requires
-    (λ c. search needs) element-write-number-2 cast-t46 returns full-requires cast-line array-write-line add-tail add-slot sub-left loop-less
-    loop-again serve-requires cast-t63 returns-2)
+    (tie.spec Inv-loop μ-loop (λ c κs. search needs) loop-holds next-number-requires (λ c. search needs) element-write-number seek-requires
+    held-requires (λ c. search needs) element-write-number-2 dropped-requires returns full-requires cast-line array-write-line add-tail
+    onward-requires loop-less loop-again serve-requires cast-t60 returns-2)

@@ -4,7 +4,8 @@ use mathlib.Core.Path.{refl}
 use mathlib.Core.List.{[]}
 use borrow.Author.Needs.{needs}
 use Rattle.queues.specs.Cols.{Cols, cols, withNumbers}
-use Rattle.removal.proofs.Removing.{seated, owned, refused, removed, few, long, whole, length-seated, indexable}
+use Rattle.leaving.proofs.Staying.{few, seated, owned, length-seated, indexable}
+use Rattle.removal.proofs.Removing.{refused, removed, long, whole}
 use Rattle.removal.proofs.remove.Statement.{statement}
 use Rattle.removal.proofs.remove.Tie as tie
 

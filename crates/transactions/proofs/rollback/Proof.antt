@@ -1,48 +1,74 @@
 -- `transactions::rollback` meets its contract: while a transaction is open what is kept is well formed, so it can be copied back into the rows
 -- made fresh, and indexed. Assumes nothing.
-use native.Mathlib.Omega.{arith}
-use borrow.Author.Needs.{needs}
+use mathlib.Core.Path.{_≡_, sym, _∙_}
 use mathlib.Core.List.{[]}
-use Rattle.transactions.proofs.Steps.{held-few, up, long-any, long-again, rebuildable, rollback-none, rollback-done}
+use borrow.Author.Needs.{needs}
+use Rattle.message.specs.Answers.{number as numberOf}
+use Rattle.transactions.proofs.Steps.{held-few, up, long-any, long-again, rebuildable, rollback-refused, rollback-done}
 use Rattle.transactions.proofs.rollback.Statement.{statement}
 use Rattle.transactions.proofs.rollback.Tie as tie
 
-returns : tie.Need-returns
-returns c = rollback-none _ (c .if1 .taken)
+done : (c : tie.Then1) → numberOf (c .before .before .may-end .result) ≡ 0
+done c = sym (c .before .number-of .ensures) ∙ c .if1 .taken
+
+-- the entry, and the calls before a place, as they are reached from there
+abbrev first : tie.Then1 → tie.Start
+first c = c .before .before .before .before
+
+abbrev taken : tie.After-held → tie.Then1
+taken c = c .before .before
+
+abbrev holding : tie.After-clear-half → tie.After-held
+holding c = c .before .before .before .before .before .before .before .before
+
+abbrev fresh : tie.After-kept → tie.After-clear-half
+fresh c = c .before .before
+
+abbrev keeping : tie.After-copy-half → tie.After-kept
+keeping c = c .before .before .before .before .before .before .before .before
 
 clear-half-requires : tie.Need-clear-half-requires
 clear-half-requires c κs =
-    let g = c .before .before .before .before .before .before .before .before .before .before .before .pre in
-    let d = held-few _ g in
-    ((omega (arith, d .0), omega (arith, d .1)), long-any _ [] (g .lengths))
+    let h = c .before .before .before .before .before .before .before in
+    let g = first (taken h) .pre in
+    (held-few _ g _ (h .held .ensures), long-any _ [] (g .lengths))
 
 copy-half-requires : tie.Need-copy-half-requires
 copy-half-requires c κs =
-    let g = c .before .before .before .before .before .before .before .before .before .before .before .before .before .before .before .before .before .before .before .before .before .pre in
-    let held = c .before .before .before .before .before .before .before .before .before .before .before .before .before .before .before .before .before .before .before .if1 .left in
-    (up _ g held (omega arith) (omega arith), long-again _ g _ (c .before .before .before .before .before .before .before .before .before .clear-half .ensures))
+    let b = c .before .before .before .before .before .before .before in
+    let x = fresh b in
+    let h = holding x in
+    let t = taken h in
+    let g = first t .pre in
+    (up _ g _ (b .kept .ensures) _ (t .before .before .may-end .ensures) (done t), long-again _ g _ (h .held .ensures) _ (x .clear-half .ensures))
 
--- the open transaction, and the calls before the index is made, as they are reached from there
-abbrev opened : tie.After-copy-half → tie.Else1
-opened h = h .before .before .before .before .before .before .before .before .before .before .before .before .before .before .before .before .before .before .before .before
+give-back-requires : tie.Need-give-back-requires
+give-back-requires c κs =
+    let y = c .before .before in
+    let b = keeping y in
+    let x = fresh b in
+    let h = holding x in
+    let t = taken h in
+    rebuildable _ (first t .pre) _ _ _ _ (h .held .ensures) (b .kept .ensures) _ (t .before .before .may-end .ensures) (done t)
+    (x .clear-half .ensures) (y .copy-half .ensures)
 
-abbrev cleared : tie.After-copy-half → tie.After-clear-half
-cleared h = h .before .before .before .before .before .before .before .before .before .before
-
-rebuild-requires : tie.Need-rebuild-requires
-rebuild-requires c κs =
-    let w = c .before .before in
-    let h = w .before .before in
-    rebuildable _ (opened h .before .before .pre) _ _ _ (opened h .if1 .left) (cleared h .clear-half .ensures) (h .copy-half .ensures) (w .copy-words .ensures)
+returns : tie.Need-returns
+returns c =
+    let y = c .before .before .before in
+    let b = keeping y in
+    let x = fresh b in
+    let h = holding x in
+    let t = taken h in
+    rollback-done _ _ _ _ _ _ _ (t .before .before .may-end .ensures) (done t) (h .held .ensures) (b .kept .ensures) (x .clear-half .ensures)
+    (y .copy-half .ensures) (c .give-back .ensures)
 
 returns-2 : tie.Need-returns-2
 returns-2 c =
-    let w = c .before .before .before in
-    let h = w .before .before in
-    rollback-done _ _ _ _ (opened h .if1 .left) (cleared h .clear-half .ensures) (h .copy-half .ensures) (w .copy-words .ensures) _ (c .rebuild .ensures)
+    let t = c .before in
+    rollback-refused _ _ (t .before .may-end .ensures) (λ e. c .if1 .left (t .number-of .ensures ∙ e))
 
 pub rollback-spec : {M : Type 1} → statement M
 rollback-spec =
     tie.close
-    (tie.spec (λ c. search needs) returns (λ c. search needs) (λ c. search needs) clear-half-requires (λ c. search needs) (λ c. search needs)
-    copy-half-requires (λ c κs. search needs) (λ c. search needs) rebuild-requires returns-2)
+    (tie.spec (λ c κs. search needs) (λ c κs. search needs) (λ c κs. search needs) clear-half-requires (λ c κs. search needs) copy-half-requires
+    give-back-requires returns returns-2)

@@ -6,8 +6,8 @@ use Rattle.buffer_rules.proofs.AddRule.{add-is}
 use Rattle.buffer_rules.proofs.AddGood.{add-good}
 use Rattle.queues.specs.Cols.{cols}
 use Rattle.queues.specs.Append.{addC}
-use Rattle.export_buffer.specs.Lent.{messageOf}
-use Rattle.export_buffer.proofs.Answers.{gives}
+use Rattle.export_parts.specs.Parts.{messageOf}
+use Rattle.buffer_cores.proofs.Answers.{gives}
 use Rattle.export_buffer.proofs.cores.add.Statement.{statement}
 use Rattle.export_buffer.proofs.cores.add.Tie as tie
 

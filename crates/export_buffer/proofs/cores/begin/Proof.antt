@@ -2,7 +2,7 @@
 use borrow.Author.Needs.{needs}
 use Rattle.buffer_rules.proofs.TransactRule.{begin-is, begin-good}
 use Rattle.queues.specs.Cols.{cols}
-use Rattle.export_buffer.proofs.Answers.{gives}
+use Rattle.buffer_cores.proofs.Answers.{gives}
 use Rattle.export_buffer.proofs.cores.begin.Statement.{statement}
 use Rattle.export_buffer.proofs.cores.begin.Tie as tie
 

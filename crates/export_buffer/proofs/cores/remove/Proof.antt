@@ -3,7 +3,7 @@ use borrow.Author.Needs.{needs}
 use Rattle.buffer_rules.proofs.RemoveRule.{remove-is}
 use Rattle.buffer_rules.proofs.RemoveGood.{remove-good}
 use Rattle.queues.specs.Cols.{cols}
-use Rattle.export_buffer.proofs.Answers.{gives}
+use Rattle.buffer_cores.proofs.Answers.{gives}
 use Rattle.export_buffer.proofs.cores.remove.Statement.{statement}
 use Rattle.export_buffer.proofs.cores.remove.Tie as tie
 

@@ -2,7 +2,7 @@
 use borrow.Author.Needs.{needs}
 use Rattle.buffer_rules.proofs.TransactRule.{rollback-is, rollback-good}
 use Rattle.queues.specs.Cols.{cols}
-use Rattle.export_buffer.proofs.Answers.{gives}
+use Rattle.buffer_cores.proofs.Answers.{gives}
 use Rattle.export_buffer.proofs.cores.rollback.Statement.{statement}
 use Rattle.export_buffer.proofs.cores.rollback.Tie as tie
 

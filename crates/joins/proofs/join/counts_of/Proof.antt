@@ -1,4 +1,4 @@
--- `joins::join::counts_of` meets its contract: the loop lays the sums over an array of zeros (proofs/Raised.antt). Assumes nothing.
+-- `joins::join::counts_of` meets its contract: the loop lays the sums over an array of zeros (proofs/Sums.antt). Assumes nothing.
 use mathlib.Core.Path.{refl}
 use Prim.Native.Nat.{_+_, _-_}
 use native.Mathlib.Omega.{arith}
@@ -6,7 +6,7 @@ use borrow.Author.Needs.{needs}
 use lib.ListN.{getD}
 use Rattle.columns.specs.Lists.{tabI}
 use Rattle.columns.proofs.Lays.{Laying, lay-start}
-use Rattle.joins.proofs.Raised.{sum-step, sum-end}
+use Rattle.joins.proofs.Sums.{sum-step, sum-end}
 use Rattle.joins.proofs.join.counts_of.Statement.{statement}
 use Rattle.joins.proofs.join.counts_of.Tie as tie
 

@@ -3,10 +3,11 @@ use Prim.Native.Nat.{_*_, _-_, _≤_}
 use native.Mathlib.Omega.{arith}
 use denote.Ref.{now}
 use borrow.Author.Needs.{needs}
-use Rattle.sheets.specs.Answer.{fills}
-use Rattle.sheets.specs.Steps.{meantBy, Tells, skipsIn}
+use Rattle.sheet_rows.specs.Answer.{fills}
+use Rattle.sheet_adds.specs.Steps.{meantBy, Tells}
+use Rattle.sheet_fills.specs.Steps.{skipsIn}
 use Rattle.sheets.proofs.Filling.{fills-then}
-use Rattle.sheets.proofs.Telling.{tells-none, tells-all}
+use Rattle.sheet_adds.proofs.Telling.{tells-none, tells-all}
 use Rattle.sheets.proofs.runs.all.Statement.{statement}
 use Rattle.sheets.proofs.runs.all.Tie as tie
 
@@ -28,7 +29,7 @@ step-requires c κs =
 loop-again : tie.Need-loop-again Inv-loop μ-loop
 loop-again c =
     let l = c .before .before .before .before .before .before .before in
-    (omega (arith, c .before .before .before .before .before .before .loop-test .taken), fills-then _ _ (l .loop .i) _ (c .before .before .before .before .before .asked-of .ensures) (l .loop .inv .1) (c .before .before .step .ensures))
+    (omega (arith, c .before .before .before .before .before .before .loop-test .taken), fills-then _ _ (l .loop .i) _ (c .before .before .before .before .before .asked-of .ensures (skipsIn (l .before .before .before .args .rows))) (l .loop .inv .1) (c .before .before .step .ensures))
 
 same-length : tie.Need-same-length Inv-loop μ-loop
 same-length c = c .before .loop .inv .1 .put .long

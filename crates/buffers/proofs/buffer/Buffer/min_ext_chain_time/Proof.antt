@@ -1,18 +1,12 @@
--- `Buffer::min_ext_chain_time` meets its contract: an absent minimum reads as the greatest number (proofs/Looks.antt). Assumes nothing.
+-- `Buffer::min_ext_chain_time` meets its contract: the number kept, with its mark. Assumes nothing.
 use borrow.Author.Needs.{needs}
-use Rattle.rules.specs.World.{most}
-use Rattle.buffers.proofs.Looks.{least-is, least-absent}
 use Rattle.buffers.proofs.buffer.Buffer.min_ext_chain_time.Statement.{statement}
 use Rattle.buffers.proofs.buffer.Buffer.min_ext_chain_time.Tie as tie
 
 returns : tie.Need-returns
-returns c = least-is _ _ (c .if1 .taken)
-
-returns-2 : tie.Need-returns-2
-unfolding most
-returns-2 c = least-absent _ _ (c .if1 .left)
+returns c = c .min-ext-chain-time .ensures
 
 pub min-ext-chain-time-spec : {M : Type 1} → statement M
 min-ext-chain-time-spec =
     tie.close
-    (tie.spec (λ c. search needs) (λ c. search needs) returns returns-2)
+    (tie.spec (λ c κs. search needs) returns)

@@ -1,0 +1,2 @@
+-- What giving a seat needs and leaves.
+pub mod Seats

@@ -1,0 +1,2 @@
+-- What counting one message more needs.
+pub mod Countable

@@ -1,0 +1,2 @@
+-- What the contracts of a buffer's exports cite.
+pub mod Told

@@ -1,0 +1,2 @@
+-- What the packing needs and leaves.
+pub mod Settling

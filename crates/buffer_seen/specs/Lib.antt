@@ -1,0 +1,2 @@
+-- What the walk of a buffer cites.
+pub mod Lent

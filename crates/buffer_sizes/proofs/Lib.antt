@@ -1,0 +1,1 @@
+-- No lemmas: each way out rewrites by the tests that led there.

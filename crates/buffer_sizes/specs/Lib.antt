@@ -1,0 +1,2 @@
+-- What set-up cites.
+pub mod Sizes

@@ -1,0 +1,12 @@
+-- The size that a set-up gives. Assumes nothing.
+use mathlib.Core.Bool.{cond, _&&_}
+use Prim.Native.Nat.{ℕ}
+use Rattle.rules.specs.Calls.{within}
+use Rattle.message.specs.declared.Code.the-variants.{Done, SetUp}
+use Rattle.buffer_sizes.specs.declared.Size.{Size}
+
+-- "M messages (1 to 1,024) and A accounts (1 to 256)"; "a refused set-up gives a fresh one of size 1"
+abbrev pub sizeFor : (m a : ℕ) → Size
+sizeFor m a =
+    cond (within 1 1024 m && within 1 256 a) (record { code = Done; messages = m; accounts = a })
+    (record { code = SetUp; messages = 1; accounts = 1 })

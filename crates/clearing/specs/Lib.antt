@@ -1,0 +1,2 @@
+-- When a column can be cleared, and when it is.
+pub mod Clear

@@ -1,0 +1,2 @@
+-- What the loop over the members keeps.
+pub mod Seats

@@ -1,0 +1,2 @@
+-- Compacting joins the packings of `compact` to one equation.
+pub mod Compacting

@@ -1,0 +1,2 @@
+-- What a fill answers, and what stands in numbers.
+pub mod Answers

@@ -1,0 +1,2 @@
+-- Answers of a group in numbers.
+pub mod Told

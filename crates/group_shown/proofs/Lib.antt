@@ -1,0 +1,1 @@
+-- No lemmas; that what is read is what the rules read is shown in crate group_reads (Looks).

@@ -1,0 +1,1 @@
+-- No definitions of its own: what is read off a group is said in crate group_reads.

@@ -1,0 +1,2 @@
+-- What the loops over the rows keep.
+pub mod Seats

@@ -1,0 +1,2 @@
+-- What the contract of the export cites of lent columns.
+pub mod Lent

@@ -1,0 +1,2 @@
+-- What the numbers say of a transaction.
+pub mod Marks

@@ -1,0 +1,2 @@
+-- What the loops of laying need.
+pub mod Laying

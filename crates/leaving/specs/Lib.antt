@@ -1,0 +1,2 @@
+-- What the two passes over accounts and messages need and leave.
+pub mod Seats

@@ -1,0 +1,2 @@
+-- What the loop over the kinds keeps.
+pub mod Internals

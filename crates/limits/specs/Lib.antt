@@ -1,0 +1,2 @@
+-- What the limits of a fill say.
+pub mod Limits

@@ -1,0 +1,2 @@
+-- What reading lines leaves.
+pub mod Steps

@@ -1,0 +1,1 @@
+-- No lemmas of its own; that what is seen is what the rules see is shown in crate group_seen (Looks).

@@ -1,0 +1,2 @@
+-- What the front of the slots to be opened becomes.
+pub mod Fronts

@@ -1,0 +1,1 @@
+-- No lemmas: each sum is small, and the last number is by whether the right has slots.

@@ -1,0 +1,2 @@
+-- When the numbers of two groups can be added.
+pub mod Sums

@@ -1,0 +1,2 @@
+-- What reading a number leaves.
+pub mod Steps

@@ -1,0 +1,2 @@
+-- What the look keeps.
+pub mod Looks

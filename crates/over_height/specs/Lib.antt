@@ -1,0 +1,2 @@
+-- When a slot is above the height.
+pub mod Heights

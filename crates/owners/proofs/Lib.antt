@@ -1,0 +1,2 @@
+-- What loops over a column share: Passing.
+pub mod Passing

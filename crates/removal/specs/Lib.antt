@@ -1,2 +1,0 @@
--- What the inner steps of a removal need and leave.
-pub mod Seats

@@ -1,0 +1,1 @@
+-- No lemmas: the contracts of the loops are all.

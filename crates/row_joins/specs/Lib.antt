@@ -1,0 +1,2 @@
+-- What the rows of a join need.
+pub mod Rooms

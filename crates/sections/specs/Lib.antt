@@ -1,0 +1,2 @@
+-- What reading a section leaves.
+pub mod Steps

@@ -1,0 +1,3 @@
+-- The proofs of the functions, and the laws that they cite.
+pub mod Telling
+pub mod Adding

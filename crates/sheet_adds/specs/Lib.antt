@@ -1,0 +1,2 @@
+-- What each step of answering a sheet leaves.
+pub mod Steps

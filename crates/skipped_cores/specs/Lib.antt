@@ -1,0 +1,1 @@
+-- No definitions of its own.

@@ -1,0 +1,2 @@
+-- What the slots of a join need and leave.
+pub mod Slots

@@ -1,0 +1,2 @@
+-- What holds of the pieces of a line.
+pub mod Lines

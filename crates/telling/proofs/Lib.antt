@@ -1,0 +1,2 @@
+-- What the loop over the rows taken keeps.
+pub mod KeyRows
