@@ -13,8 +13,8 @@ use lib.Seq.{length-take-le, take-all, drop-cons, set-at, getD-append-add, take-
 use borrow.Author.Tests.{eq-eqb, ne-eqb, lt-ltb, ltb-true, ltb-false, le-ltb}
 use Rattle.rules.specs.World.{Each, keep}
 use Rattle.rules.specs.Demand.{OnceN}
-use Rattle.rules.proofs.Rows.{keep-append}
-use Rattle.rules.proofs.Fits.{length-keep}
+use Rattle.demands.proofs.Rows.{keep-append}
+use Rattle.demands.proofs.Fits.{length-keep}
 use Rattle.numbers.proofs.Bytes.{byBool}
 use Rattle.columns.proofs.Laid.{drop-same, getD-same}
 use Rattle.buckets.specs.Cells.{mark, upTo, GoodBucket}

@@ -14,8 +14,8 @@ use Rattle.rules.specs.Queues.{countOf, hasSlot}
 use Rattle.rules.specs.Fill as fill
 use Rattle.rules.specs.Demand.{OnceN}
 use Rattle.rules.specs.Kept.{Indexed}
-use Rattle.rules.proofs.Rows.{which, clash}
-use Rattle.rules.proofs.Slots.{hasSlot-numbers}
+use Rattle.demands.proofs.Rows.{which, clash}
+use Rattle.demands.proofs.Slots.{hasSlot-numbers}
 use Rattle.buckets.specs.Cells.{cellsOf, bucketOf, index, GoodBuckets}
 use Rattle.buckets.specs.Moves.{MayReindex, MayList}
 use Rattle.buckets.proofs.Cells.{cell-at, at-index}

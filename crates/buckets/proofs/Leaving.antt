@@ -10,9 +10,9 @@ use lib.ListN.{length, getD, set, length-set}
 use lib.Seq.{getD-set-same, getD-set-other}
 use borrow.Author.Tests.{ne-eqb, eqb-true, eqb-false}
 use Rattle.rules.specs.World.{keep, isMember, others, isNil}
-use Rattle.rules.proofs.Rows.{or-false, keep-append}
-use Rattle.rules.proofs.Slots.{isMember-append}
-use Rattle.rules.proofs.Sound.{keep-keep}
+use Rattle.demands.proofs.Rows.{or-false, keep-append}
+use Rattle.demands.proofs.Slots.{isMember-append}
+use Rattle.demands.proofs.Sound.{keep-keep}
 use Rattle.numbers.proofs.Bytes.{byBool}
 use Rattle.buckets.specs.Moves.{putLast, takenOut, movedOn}
 use Rattle.buckets.proofs.Entries.{other}

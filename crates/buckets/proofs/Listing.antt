@@ -8,7 +8,7 @@ use native.Mathlib.Omega.{arith}
 use lib.Dec.{eqb}
 use lib.ListN.{length, getD, length-append}
 use Rattle.rules.specs.World.{isMember}
-use Rattle.rules.proofs.Slots.{isMember-append}
+use Rattle.demands.proofs.Slots.{isMember-append}
 use Rattle.numbers.proofs.Bytes.{byBool}
 use Rattle.columns.specs.Lists.{gather}
 use Rattle.buckets.specs.Cells.{bucketOf, index, GoodBuckets}

@@ -11,9 +11,9 @@ use lib.ListN.{length, getD, take, set, replicate, length-set, getD-replicate}
 use lib.Seq.{length-take-le}
 use borrow.Author.Tests.{eq-eqb, ne-eqb, eqb-true}
 use Rattle.rules.specs.World.{keep, isMember, isNil}
-use Rattle.rules.proofs.Rows.{or-cases}
-use Rattle.rules.proofs.Slots.{isMember-append}
-use Rattle.rules.proofs.TidyIndex.{kept-in, none-in}
+use Rattle.demands.proofs.Rows.{or-cases}
+use Rattle.demands.proofs.Slots.{isMember-append}
+use Rattle.demands.proofs.TidyIndex.{kept-in, none-in}
 use Rattle.numbers.proofs.Bytes.{byBool}
 use Rattle.columns.specs.Lists.{gather}
 use Rattle.buckets.specs.Cells.{bucketOf, index, GoodBuckets}

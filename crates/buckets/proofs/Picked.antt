@@ -15,10 +15,10 @@ use lib.Seq.{length-take-le, drop-cons, getD-take, take-add}
 use borrow.Author.Tests.{eq-eqb, ne-eqb, eqb-true, eqb-false}
 use Rattle.rules.specs.World.{keep, isMember}
 use Rattle.rules.specs.Demand.{OnceN}
-use Rattle.rules.proofs.Rows.{left, right, or-cases}
-use Rattle.rules.proofs.Slots.{isMember-append}
-use Rattle.rules.proofs.Sound.{keep-member}
-use Rattle.rules.proofs.Fits.{length-keep}
+use Rattle.demands.proofs.Rows.{left, right, or-cases}
+use Rattle.demands.proofs.Slots.{isMember-append}
+use Rattle.demands.proofs.Sound.{keep-member}
+use Rattle.demands.proofs.Fits.{length-keep}
 use Rattle.numbers.proofs.Bytes.{byBool, clash}
 use Rattle.columns.specs.Lists.{gather}
 use Rattle.buckets.proofs.Entries.{other}

@@ -6,9 +6,9 @@ use native.Mathlib.Omega.{arith}
 use lib.ListN.{length, getD, set, length-append}
 use Rattle.rules.specs.World.{keep}
 use Rattle.rules.specs.Demand.{OnceN}
-use Rattle.rules.proofs.First.{once-last}
-use Rattle.rules.proofs.Accounts.{each-keep}
-use Rattle.rules.proofs.TidyIndex.{once-kept}
+use Rattle.demands.proofs.First.{once-last}
+use Rattle.demands.proofs.Accounts.{each-keep}
+use Rattle.demands.proofs.TidyIndex.{once-kept}
 use Rattle.buckets.specs.Cells.{mark, upTo, cellsOf, bucketOf, index, GoodBucket, GoodBuckets}
 use Rattle.buckets.specs.Moves.{Leaves, MayPut, putLast, takenOut}
 use Rattle.buckets.proofs.Cells.{length-cells, cell-at, store-here, at-index, Edits, edit-start, edit-step, edit-more, edits-leave}

@@ -15,7 +15,7 @@ use Rattle.rules.specs.Queues.{count, countOf}
 use Rattle.rules.specs.Fill as fill
 use Rattle.rules.specs.Fill.{changed, bucket, reindexed, listedToo}
 use Rattle.rules.specs.Demand.{OnceN}
-use Rattle.rules.proofs.Sound.{keep-keep}
+use Rattle.demands.proofs.Sound.{keep-keep}
 use Rattle.numbers.proofs.Bytes.{byBool}
 use Rattle.columns.specs.Lists.{tabI, gather}
 use Rattle.columns.proofs.Tabs.{tab-cong}

@@ -15,8 +15,8 @@ use Rattle.columns.proofs.Laid.{length-laid, getD-laid-behind}
 use Rattle.rules.specs.World.{keep}
 use Rattle.rules.specs.Queues.{internals, externals, heldInts, heldExts, add}
 use Rattle.rules.specs.Kept.{TidyBuffer}
-use Rattle.rules.proofs.Accounts.{num-give}
-use Rattle.rules.proofs.TidyBuffer.{buffer-add}
+use Rattle.demands.proofs.Accounts.{num-give}
+use Rattle.demands.proofs.TidyBuffer.{buffer-add}
 use Rattle.message.specs.declared.Form.{Form}
 use Rattle.message.specs.declared.Form.the-variants.{Standard, Other}
 use Rattle.message.specs.declared.Message.{Message}

@@ -16,7 +16,7 @@ use Rattle.columns.proofs.Tabs.{length-tab}
 use Rattle.rules.specs.World.{firstOf, lowered}
 use Rattle.rules.specs.Queues.{allMsgs, give, add}
 use Rattle.rules.specs.Calls.{answer, withNow, addCode, addMessage}
-use Rattle.rules.proofs.Demand.{first-code}
+use Rattle.demands.proofs.Demand.{first-code}
 use Rattle.message.specs.declared.Code.{Code}
 use Rattle.message.specs.declared.Code.the-variants.{Done, Special, WrongKind, Full, Crowded}
 use Rattle.message.specs.declared.Message.{Message}

@@ -16,7 +16,7 @@ use Rattle.columns.specs.Rows.{indexOf}
 use Rattle.columns.proofs.Tabs.{later}
 use Rattle.rules.specs.World.{keep, some-of}
 use Rattle.rules.specs.Queues.{isIn}
-use Rattle.rules.proofs.Rows.{or-false}
+use Rattle.demands.proofs.Rows.{or-false}
 use Rattle.message.specs.Real.{Real}
 
 -- ---- an account among names

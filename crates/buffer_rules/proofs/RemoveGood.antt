@@ -11,9 +11,9 @@ use Rattle.columns.proofs.Gathers.{rank-le}
 use Rattle.rules.specs.World.{World, Row, keep, joined, some-of}
 use Rattle.rules.specs.Queues.{isIn, externals, allMsgs, heldInts, heldExts}
 use Rattle.rules.specs.Kept.{TidyBuffer}
-use Rattle.rules.proofs.Rows.{or-false}
-use Rattle.rules.proofs.Accounts.{num-append}
-use Rattle.rules.proofs.TidyBuffer.{buffer-remove}
+use Rattle.demands.proofs.Rows.{or-false}
+use Rattle.demands.proofs.Accounts.{num-append}
+use Rattle.demands.proofs.TidyBuffer.{buffer-remove}
 use Rattle.message.specs.Real.{Real}
 use Rattle.message.proofs.Real.{real-lawful}
 use Rattle.queues.specs.Cols.{Cols, live, number}

@@ -14,8 +14,8 @@ use Rattle.index.specs.Names.{indexOfNames, entered, noNames}
 use Rattle.rules.specs.World.{joined, keep, firstOf}
 use Rattle.rules.specs.Queues.{allMsgs, internals, externals, heldInts, heldExts}
 use Rattle.rules.specs.Calls.{answer, within, noMessages, setUpBuffer}
-use Rattle.rules.proofs.TidyBuffer.{buffer-none}
-use Rattle.rules.proofs.Fits.{in-range}
+use Rattle.demands.proofs.TidyBuffer.{buffer-none}
+use Rattle.demands.proofs.Fits.{in-range}
 use Rattle.message.specs.declared.Code.the-variants.{Done, SetUp}
 use Rattle.message.specs.Real.{Real}
 use Rattle.message.proofs.Real.{real-lawful}

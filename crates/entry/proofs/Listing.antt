@@ -12,8 +12,8 @@ use lib.ListN.{length, getD, take, drop, set, length-set, length-append, take-ap
 use lib.Seq.{take-suc, take-add, take-suc-set, drop-set-lt, length-take-le}
 use borrow.Author.Tests.{lt-ltb, le-ltb}
 use Rattle.rules.specs.World.{joined, keep}
-use Rattle.rules.proofs.Rows.{keep-append}
-use Rattle.rules.proofs.Fits.{length-keep}
+use Rattle.demands.proofs.Rows.{keep-append}
+use Rattle.demands.proofs.Fits.{length-keep}
 use Rattle.columns.specs.Lists.{tabI}
 use Rattle.columns.specs.Laid.{laidAt}
 use Rattle.columns.proofs.Tabs.{tab-snoc}

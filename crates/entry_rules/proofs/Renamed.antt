@@ -11,7 +11,7 @@ use lib.Dec.{eqb}
 use lib.ListN.{length, getD, take}
 use Rattle.rules.specs.World.{World, Row, Slot, Skip, Each, keep}
 use Rattle.rules.specs.Fill.{fill, fillCode}
-use Rattle.rules.proofs.Accounts.{each-keep}
+use Rattle.demands.proofs.Accounts.{each-keep}
 use Rattle.renaming.specs.Renaming.{Renaming, Kinds, onRow, onSlot, onSkip, onArgs, onBuffer, onGroup, onFilled, InArgs, InBuffer, InGroup, Agrees}
 use Rattle.renaming.proofs.In.{FillIn, fill-in}
 use Rattle.columns.specs.Lists.{tabI, pick, gather}

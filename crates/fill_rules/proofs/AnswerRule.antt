@@ -10,7 +10,7 @@ use Rattle.rules.specs.Fill.{Filled}
 use Rattle.rules.specs.Calls.{withNow, written}
 use Rattle.rules.specs.Demand.{Demand3}
 use Rattle.rules.specs.Kept.{TidyBuffer}
-use Rattle.rules.proofs.Demand.{demand-3}
+use Rattle.demands.proofs.Demand.{demand-3}
 use Rattle.columns.specs.Lists.{gather}
 use Rattle.columns.specs.Rows.{rowAt, flat}
 use Rattle.columns.proofs.Laid.{drop-laid}

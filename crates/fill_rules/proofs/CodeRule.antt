@@ -14,7 +14,7 @@ use Rattle.rules.specs.World.{Skip, atLeast0, firstOf, joined, keep, some-of}
 use Rattle.rules.specs.Queues as rules
 use Rattle.rules.specs.Passes.{toOpen, listed}
 use Rattle.rules.specs.Fill.{fillCode}
-use Rattle.rules.proofs.Rows.{or-false}
+use Rattle.demands.proofs.Rows.{or-false}
 use Rattle.columns.specs.Lists.{tabI, countI}
 use Rattle.columns.proofs.Tabs.{length-tab}
 use Rattle.columns.proofs.Rows.{length-rows}

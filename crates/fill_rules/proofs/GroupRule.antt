@@ -12,8 +12,8 @@ use Rattle.rules.specs.Queues.{internals, externals}
 use Rattle.rules.specs.Passes.{ended}
 use Rattle.rules.specs.Fill.{Filled, accepted, groupAfter, groupInts, groupExts, reindexed}
 use Rattle.rules.specs.Kept.{TidyGroup}
-use Rattle.rules.proofs.Rows.{keep-both}
-use Rattle.rules.proofs.RoomFill.{given-fill, last-fill}
+use Rattle.demands.proofs.Rows.{keep-both}
+use Rattle.demands.proofs.RoomFill.{given-fill, last-fill}
 use Rattle.columns.specs.Lists.{rank}
 use Rattle.message.specs.Real.{Real, keyOf}
 use Rattle.message.proofs.Real.{real-lawful}

@@ -11,11 +11,11 @@ use Rattle.rules.specs.Passes.{ended}
 use Rattle.rules.specs.Fill.{Filled, fillCode, fill, accepted, groupAfter}
 use Rattle.rules.specs.Made.{FitsSet}
 use Rattle.rules.specs.Kept.{TidyGroup, TidyBuffer}
-use Rattle.rules.proofs.Demand.{accepts}
-use Rattle.rules.proofs.RoomFill.{room-fill, slots-fill, tidy-group-fill}
-use Rattle.rules.proofs.TidyBuffer.{buffer-fill}
-use Rattle.rules.proofs.Taken.{key-rows}
-use Rattle.rules.proofs.SkippedSet.{set-fill}
+use Rattle.demands.proofs.Demand.{accepts}
+use Rattle.demands.proofs.RoomFill.{room-fill, slots-fill, tidy-group-fill}
+use Rattle.demands.proofs.TidyBuffer.{buffer-fill}
+use Rattle.demands.proofs.Taken.{key-rows}
+use Rattle.demands.proofs.SkippedSet.{set-fill}
 use Rattle.renaming.specs.Renaming.{onFilled, onRow, onSlot}
 use Rattle.columns.specs.Lists.{rank}
 use Rattle.columns.proofs.Rows.{length-rows}

@@ -8,7 +8,7 @@ use lib.Dec.{ltb}
 use lib.ListN.{length, getD, take, replicate, length-replicate, length-take}
 use Rattle.rules.specs.World.{joined}
 use Rattle.rules.specs.Passes as rules
-use Rattle.rules.proofs.Fits.{length-keep}
+use Rattle.demands.proofs.Fits.{length-keep}
 use Rattle.columns.specs.Laid.{laidAt}
 use Rattle.columns.proofs.Laid.{length-laid}
 use Rattle.message.specs.Real.{Real}
@@ -22,7 +22,7 @@ use Rattle.meaning.specs.Means.{Ran}
 use Rattle.meaning.specs.Begins.{Begun}
 use Rattle.meaning.proofs.Begins.{begins}
 use Rattle.meaning.proofs.Runs.{run-means}
-use Rattle.numbered.specs.Begin.{Fit, worksW, beginW}
+use Rattle.works.specs.Begin.{Fit, worksW, beginW}
 use Rattle.entry_rules.specs.Calling.{Call, GoodCall, Lent, GoodLent, members, ext, time, World′, back, argsNum, setNum, fixed, setting, bufferNum, groupNum, ownerMade, planMade, memberMade, homeMade, markMade, costMade}
 use Rattle.entry_rules.proofs.Lents.{fresh-good}
 use Rattle.entry_rules.proofs.Facts.{few-rows, few-places, few-members, few-slots, buffer-message, group-message}

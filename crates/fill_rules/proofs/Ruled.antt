@@ -10,7 +10,7 @@ use Rattle.numbers.proofs.Bytes.{byBool}
 use Rattle.rules.specs.World.{Args, Buffer, Group}
 use Rattle.rules.specs.Fill.{Filled, fillCode, fill, accepted, refused}
 use Rattle.rules.specs.Calls.{Store, Target, fillGroup}
-use Rattle.rules.proofs.Reached.{refusal-stays}
+use Rattle.demands.proofs.Reached.{refusal-stays}
 use Rattle.columns.specs.Rows.{rowsOf}
 use Rattle.columns.proofs.Tabs.{length-tab}
 use Rattle.message.specs.Answers.{number as numberOf}

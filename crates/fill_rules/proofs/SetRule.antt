@@ -13,7 +13,7 @@ use Rattle.numbers.proofs.Bytes.{byBool}
 use Rattle.rules.specs.World.{Each}
 use Rattle.rules.specs.Fill.{Filled}
 use Rattle.rules.specs.Made.{FitsSet}
-use Rattle.rules.proofs.Demand.{accepts}
+use Rattle.demands.proofs.Demand.{accepts}
 use Rattle.columns.specs.Laid.{laidAt}
 use Rattle.columns.specs.Rows.{rowsOf, flat, indexOf}
 use Rattle.columns.proofs.Rows.{Wide, length-rows, getD-rows, length-flat}

@@ -12,9 +12,9 @@ use Rattle.rules.specs.World.{World, Slot, Args, Buffer, Group, keep}
 use Rattle.rules.specs.Queues.{countOf}
 use Rattle.rules.specs.Passes.{State, entered}
 use Rattle.rules.specs.Fill.{Filled, accepted, bufferAfter, groupAfter}
-use Rattle.rules.proofs.Rows.{Lawful}
-use Rattle.rules.proofs.Steps.{R-ended}
-use Rattle.rules.proofs.Move.{Le, le-steps}
+use Rattle.demands.proofs.Rows.{Lawful}
+use Rattle.demands.proofs.Steps.{R-ended}
+use Rattle.demands.proofs.Move.{Le, le-steps}
 use Rattle.columns.specs.Lists.{tabI}
 use Rattle.columns.proofs.Tabs.{length-tab}
 use Rattle.moves.specs.declared.Fixed.{Fixed}

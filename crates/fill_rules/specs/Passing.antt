@@ -13,8 +13,8 @@ use Rattle.meaning.specs.Meaning.{Columns}
 use Rattle.meaning.specs.Passes.{RanC}
 use Rattle.meaning.specs.Means.{Ran}
 use Rattle.entry.specs.Entry.{Sayings}
-use Rattle.numbered.specs.Begin.{Accounts, Held, Slots, accounts, held, slots, Fit, beginW}
-use Rattle.numbered.specs.Run.{MayRun, runW}
+use Rattle.works.specs.Begin.{Accounts, Held, Slots, accounts, held, slots, Fit, beginW}
+use Rattle.works.specs.Run.{MayRun, runW}
 use Rattle.works.specs.Works.{columnsW}
 use Rattle.works.specs.declared.Work.{Work}
 use Rattle.entry_rules.specs.Calling.{Call, GoodCall, Lent, rows, places, members, ext, time, back, argsNum, setNum, bufferNum, groupNum, fixed, setting, ownerMade, homeMade, memberMade, costMade}

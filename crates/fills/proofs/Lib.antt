@@ -1,3 +1,2 @@
--- What the proofs of a fill share: Passes (entry and passes), Whole (the fill).
-pub mod Passes
+-- `Whole`: what the fill needs at each of its calls, and that what they leave is what it promises.
 pub mod Whole

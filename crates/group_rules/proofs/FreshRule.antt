@@ -12,7 +12,7 @@ use Rattle.rules.specs.Queues.{allMsgs, internals, externals}
 use Rattle.rules.specs.Fill.{fresh, groupInts, groupExts}
 use Rattle.rules.specs.Calls.{Target}
 use Rattle.rules.specs.Kept.{TidyGroup}
-use Rattle.rules.proofs.TidyJoin.{tidy-fresh}
+use Rattle.demands.proofs.TidyJoin.{tidy-fresh}
 use Rattle.message.specs.Real.{Real}
 use Rattle.queues.specs.Meant.{orderOf}
 use Rattle.queues.specs.Good.{Zeros}

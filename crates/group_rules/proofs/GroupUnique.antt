@@ -18,7 +18,7 @@ use Rattle.rules.specs.Queues.{has, isIn, accounts, allMsgs}
 use Rattle.rules.specs.Calls.{Target}
 use Rattle.rules.specs.Fill.{groupInts, groupExts}
 use Rattle.rules.specs.Demand.{Once}
-use Rattle.rules.proofs.Rows.{Lawful}
+use Rattle.demands.proofs.Rows.{Lawful}
 use Rattle.message.specs.declared.Message.{Message}
 use Rattle.message.specs.Real.{Real}
 use Rattle.message.proofs.Real.{real-lawful}

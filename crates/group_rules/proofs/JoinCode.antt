@@ -21,8 +21,8 @@ use Rattle.rules.specs.World.{Row, firstOf, some-of}
 use Rattle.rules.specs.Queues.{has}
 use Rattle.rules.specs.Fill.{nextNumber, joinCode}
 use Rattle.rules.specs.Calls.{joinGroups}
-use Rattle.rules.proofs.Rows.{or-false}
-use Rattle.rules.proofs.Demand.{first-code}
+use Rattle.demands.proofs.Rows.{or-false}
+use Rattle.demands.proofs.Demand.{first-code}
 use Rattle.message.specs.declared.Code.{Code}
 use Rattle.message.specs.declared.Code.the-variants.{Done, ManySlots, SharedAccount, NumbersUsedUp}
 use Rattle.message.specs.Answers.{number as numberOf}

@@ -11,8 +11,8 @@ use Rattle.rules.specs.World.{World, Row, joined}
 use Rattle.rules.specs.Queues.{allMsgs, internals, externals}
 use Rattle.rules.specs.Fill.{groupInts, groupExts}
 use Rattle.rules.specs.Kept.{TidyGroup}
-use Rattle.rules.proofs.Accounts.{num-append}
-use Rattle.rules.proofs.TidyJoin.{tidy-join}
+use Rattle.demands.proofs.Accounts.{num-append}
+use Rattle.demands.proofs.TidyJoin.{tidy-join}
 use Rattle.message.specs.Real.{Real}
 use Rattle.message.proofs.Real.{real-lawful}
 use Rattle.message.specs.declared.Code.the-variants.{Done}

@@ -19,7 +19,7 @@ use Rattle.rules.specs.Queues as queues
 use Rattle.rules.specs.Fill.{nextNumber, renumbered, listedToo}
 use Rattle.rules.specs.Fill as fill
 use Rattle.rules.specs.Demand.{OnceN}
-use Rattle.rules.proofs.SoundJoin.{Small, to-small}
+use Rattle.demands.proofs.SoundJoin.{Small, to-small}
 use Rattle.message.specs.declared.Code.the-variants.{Done}
 use Rattle.message.specs.Real.{Real}
 use Rattle.buckets.specs.Cells.{index}

@@ -5,7 +5,7 @@ use native.Mathlib.Omega.{arith}
 use lib.ListN.{length}
 use Rattle.columns.proofs.Tabs.{length-tab}
 use Rattle.rules.specs.Queues.{allMsgs}
-use Rattle.rules.proofs.RoomFill.{few-messages, few-accounts}
+use Rattle.demands.proofs.RoomFill.{few-messages, few-accounts}
 use Rattle.message.specs.Real.{Real}
 use Rattle.queues.specs.Meant.{orderOf, rowIn}
 use Rattle.queues.proofs.Counts.{all-counted}

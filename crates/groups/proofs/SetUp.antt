@@ -5,7 +5,7 @@ use Prim.Native.Nat.{ℕ}
 use native.Mathlib.Omega.{arith}
 use Rattle.rules.specs.World.{firstOf}
 use Rattle.rules.specs.Calls.{Target, Answer, answer, within, setUpGroup}
-use Rattle.rules.proofs.Fits.{in-range}
+use Rattle.demands.proofs.Fits.{in-range}
 use Rattle.message.specs.declared.Code.{Code}
 use Rattle.message.specs.declared.Code.the-variants.{Done, SetUp}
 use Rattle.message.specs.Answers.{number as numberOf}

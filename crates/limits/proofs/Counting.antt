@@ -10,7 +10,7 @@ use lib.ListN.{length, getD, drop}
 use borrow.Author.Tests.{eq-eqb, ne-eqb, ltb-false}
 use Rattle.columns.specs.Lists.{countI}
 use Rattle.columns.proofs.Scans.{count-step}
-use Rattle.rules.proofs.Rows.{or-false}
+use Rattle.demands.proofs.Rows.{or-false}
 use Rattle.limits.specs.Limits.{tooLarge, skipsIn}
 
 -- ---- the rows that say skip

@@ -3,7 +3,7 @@
 use mathlib.Core.Path.{_≡_, refl}
 use Rattle.numbers.proofs.Bytes.{eqL-true, eqL-self}
 use Rattle.rules.specs.Queues.{droppable}
-use Rattle.rules.proofs.Rows.{Lawful}
+use Rattle.demands.proofs.Rows.{Lawful}
 use Rattle.message.specs.declared.Filter.{Filter}
 use Rattle.message.specs.declared.Filter.the-variants.{Off, Below}
 use Rattle.message.specs.declared.Message.{Message}

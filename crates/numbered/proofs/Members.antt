@@ -16,7 +16,7 @@ use Rattle.columns.proofs.Tabs.{length-tab, getD-tab}
 use Rattle.columns.proofs.Laid.{length-laid, getD-laid-in}
 use Rattle.message.specs.declared.Filter.{Filter}
 use Rattle.entry.specs.Entry.{Sayings, seatIn, partyOf, numberedC, markOf, costOf, orderMarks, orderCosts, classOf, classesC, Judges}
-use Rattle.numbered.specs.Begin.{Accounts, FitAccounts, memberW}
+use Rattle.works.specs.Begin.{Accounts, FitAccounts, memberW}
 
 -- a column as it is made
 abbrev fresh : ℕ → List ℕ

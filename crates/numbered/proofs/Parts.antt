@@ -7,10 +7,10 @@ use Rattle.columns.specs.Laid.{laidAt}
 use Rattle.message.specs.declared.Filter.{Filter}
 use Rattle.entry.specs.Entry.{Sayings, Judges, Lists, housedC, orderMarks, orderCosts, groupMarks, groupCosts, classesC, ownersC, linkC}
 use Rattle.works.specs.declared.Work.{Work}
-use Rattle.numbered.specs.declared.Homes.{Homes}
-use Rattle.numbered.specs.declared.Judged.{Judged}
-use Rattle.numbered.specs.declared.Rows.{Rows}
-use Rattle.numbered.specs.Begin.{Accounts, Held, Slots, memberW, homesW, judgedBy, rowsW, below, worksW, beginW}
+use Rattle.works.specs.declared.Homes.{Homes}
+use Rattle.works.specs.declared.Judged.{Judged}
+use Rattle.works.specs.declared.Rows.{Rows}
+use Rattle.works.specs.Begin.{Accounts, Held, Slots, memberW, homesW, judgedBy, rowsW, below, worksW, beginW}
 
 abbrev homes : (member home : List ℕ) → Homes
 homes m h = record { member = m; home = h }

@@ -5,34 +5,19 @@ ghost use Prim.Native.Nat.{_≤_};
 ghost use lib.ListN.{length};
 ghost use Rattle.buckets.specs.Cells.{GoodBuckets};
 ghost use Rattle.entry.specs.Entry.{sayings, Spoken};
-ghost use Rattle.numbered.specs.Begin.{accounts, held, slots as slotsOf, FitAccounts, FitRows, Fit, homesW, judgedBy, rowsW, worksW, beginW};
-ghost use Rattle.numbered.specs.Run.{MayRun, runW};
+ghost use Rattle.works.specs.Begin.{accounts, held, slots as slotsOf, FitAccounts, FitRows, Fit, homesW, judgedBy, rowsW, worksW, beginW};
+ghost use Rattle.works.specs.Run.{MayRun, runW};
 ghost use Rattle.works.specs.Works.{ranW};
 use message::Filter;
 use moves::Fixed;
 use moves::Tally;
 use numbers::SlotId;
 use works::Done;
+use works::Homes;
+use works::Judged;
 use works::Left;
+use works::Rows;
 use works::Work;
-
-// The group's accounts as parties, and the parties' homes.
-pub struct Homes {
-    pub member: [u16; 1280],
-    pub home: [u8; 1280],
-}
-
-// What is said of the parties.
-pub struct Judged {
-    pub mark: [u8; 1280],
-    pub cost: [u64; 1280],
-}
-
-// The buffer's rows: their owners, and the plan.
-pub struct Rows {
-    pub owner: [u16; 1024],
-    pub plan: [u16; 2304],
-}
 
 // ---- the entry
 

@@ -12,7 +12,7 @@ fn held_of(number: &[u16; 64], ints: &[u8; 64], exts: &[u8; 64], slots: usize, i
     requires { ⌜ (length (now number) ≡ 64) × (slots ≤ 64) ⌝ }
     ensures { λ r. ⌜ r ≡ heldOf (now (number .entry)) (now (ints .entry)) (now (exts .entry)) slots (id .0) ⌝ }
 {
-    let at = second_pass::position_of(number, slots, id);
+    let at = positions::position_of(number, slots, id);
     if at < slots {
         return numbers::wide8(ints[at]) + numbers::wide8(exts[at]);
     }

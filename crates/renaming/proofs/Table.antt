@@ -14,9 +14,9 @@ use Rattle.rules.specs.Queues.{isIn}
 use Rattle.rules.specs.Demand.{Once}
 use Rattle.renaming.specs.Renaming.{Kinds, Agrees, InArgs, InStore, InGroup, Numbered, byTable}
 use Rattle.renaming.proofs.In.{FillGroupIn, fillGroup-in}
-use Rattle.rules.proofs.Rows.{Lawful, which, or-false}
-use Rattle.rules.proofs.Slots.{eq-of, eq-true, ne-of, ne-false}
-use Rattle.rules.proofs.Accounts.{turn}
+use Rattle.demands.proofs.Rows.{Lawful, which, or-false}
+use Rattle.demands.proofs.Slots.{eq-of, eq-true, ne-of, ne-false}
+use Rattle.demands.proofs.Accounts.{turn}
 
 eqb-suc : (p q : ℕ) → eqb p q ≡ eqb (suc p) (suc q)
 eqb-suc p q = elim (which (eqb p q)) [

@@ -25,25 +25,6 @@ lt-or-le x y = byBool (ltb x y) (λ e. inl (ltb-true x y e)) (λ e. inr (ltb-fal
 past : {j e : ℕ} → (j < e → ⊥) → (j < e) ⊎ (e ≤ j) → e ≤ j
 past n q = ⊎-elim (λ a. absurd (n a)) (λ a. a) q
 
--- ---- the position of a slot
-module _ (numbers : List ℕ) (n x : ℕ) where
-  abbrev pub Position : ℕ → ℕ
-  Position j = positionFrom numbers x (n - j) j
-
-  position-next : (j : ℕ) → j < n → Position j ≡ cond (eqb (getD numbers j 0) x) j (Position (j + 1))
-  unfolding positionFrom
-  position-next j h = rw (turns n j h)
-
-  pub position-hit : (j : ℕ) → j < n → getD numbers j 0 ≡ x → Position j ≡ j
-  position-hit j h e = position-next j h ∙ rw (eq-eqb _ _ e)
-
-  pub position-on : (j : ℕ) → j < n → (getD numbers j 0 ≡ x → ⊥) → Position (j + 1) ≡ Position j
-  position-on j h e = sym (position-next j h ∙ rw (ne-eqb _ _ e))
-
-  pub position-end : (j : ℕ) → n ≤ j → Position j ≡ j
-  unfolding positionFrom
-  position-end j h = rw (sub-eq-zero-of-le h)
-
 -- ---- the second pass
 pub record Second (class cost : List ℕ) (f : Fixed) (numbers : List ℕ) (e : ℕ) (goal : WalkC) (xs : List ℕ) (count k at : ℕ)
     (m : Columns) : Type 0 where

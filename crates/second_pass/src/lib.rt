@@ -1,31 +1,15 @@
 // The second pass of a fill on lent columns of numbers: a visit to each listed slot that stood at entry. `number` holds the slots' numbers by
 // position; `listed` the numbers of the slots that the index lists below the height, in its order.
 ghost use mathlib.Core.Path.{_≡_};
-ghost use Prim.Native.Nat.{_<_, _≤_};
+ghost use Prim.Native.Nat.{_≤_};
 ghost use lib.ListN.{length, take};
 ghost use Rattle.meaning.specs.Meaning.{columns};
 ghost use Rattle.meaning.specs.Walks.{Ready, walk};
-ghost use Rattle.meaning.specs.Passes.{positionFrom, secondC};
+ghost use Rattle.meaning.specs.Passes.{secondC};
 use moves::Fixed;
 use moves::Tally;
 use numbers::SlotId;
 use walks::Walk;
-
-// The position of a slot among the first `slots`, or `slots` if it is not there.
-pub fn position_of(number: &[u16; 64], slots: usize, id: SlotId) -> usize
-    requires { ⌜ (slots ≤ 64) × (length (now number) ≡ 64) ⌝ }
-    ensures { λ r. ⌜ r ≡ positionFrom (now (number .entry)) (id .0) slots 0 ⌝ }
-{
-    let x = id.0;
-    let mut slot: usize = 0;
-    while slot < slots {
-        if number[slot] == x {
-            return slot;
-        }
-        slot += 1;
-    }
-    slot
-}
 
 // The second pass: a visit to each of the `count` slots listed that stood at entry, where there were `entry` slots.
 pub fn second(
@@ -56,7 +40,7 @@ pub fn second(
     let mut at = from;
     let mut now = tally;
     while i < count {
-        let slot = position_of(number, entry, SlotId(listed[i]));
+        let slot = positions::position_of(number, entry, SlotId(listed[i]));
         if slot < entry {
             let w = visits::visit(
                 owner,

@@ -16,7 +16,7 @@ use Rattle.columns.proofs.Gathers.{rank-le}
 use Rattle.rules.specs.World.{joined, keep}
 use Rattle.rules.specs.Queues.{allMsgs, internals, heldInts, heldExts}
 use Rattle.rules.specs.Kept.{TidyBuffer}
-use Rattle.rules.proofs.Accounts.{num, num-nil, num-append}
+use Rattle.demands.proofs.Accounts.{num, num-nil, num-append}
 use Rattle.message.specs.Real.{Real}
 use Rattle.message.specs.declared.Message.{Message}
 use Rattle.queues.specs.Cols.{Cols, Half, live, number, withNumbers}

@@ -16,8 +16,8 @@ use Rattle.columns.specs.Rows.{rowAt}
 use Rattle.rules.specs.World.{World, Slot}
 use Rattle.rules.specs.Queues.{isIn}
 use Rattle.rules.specs.Kept.{slotted, TidyGroup}
-use Rattle.rules.proofs.Rows.{Lawful, or-cases}
-use Rattle.rules.proofs.Slots.{isIn-append}
+use Rattle.demands.proofs.Rows.{Lawful, or-cases}
+use Rattle.demands.proofs.Slots.{isIn-append}
 use Rattle.message.specs.Real.{Real}
 use Rattle.message.proofs.Real.{real-lawful}
 use Rattle.queues.specs.Meant.{rowIn, orderOf}

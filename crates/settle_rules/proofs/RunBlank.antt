@@ -13,7 +13,7 @@ use lib.Seq.{getD-set-same, getD-set-other}
 use borrow.Author.Tests.{eqb-true, eqb-false}
 use Rattle.numbers.proofs.Bytes.{byBool}
 use Rattle.rules.specs.World.{Each}
-use Rattle.rules.proofs.Accounts.{each-map}
+use Rattle.demands.proofs.Accounts.{each-map}
 use Rattle.moves.specs.declared.Fixed.{Fixed}
 use Rattle.moves.specs.Moves.{Store, moveStore, tookStore, enterHomes, wantedOf}
 use Rattle.meaning.specs.Meaning.{Columns}

@@ -24,7 +24,7 @@ use Rattle.message.specs.Real.{filterOf}
 use Rattle.buckets.specs.Cells.{index}
 use Rattle.slots.specs.Table.{count}
 use Rattle.entry.specs.Entry.{ownersC}
-use Rattle.numbered.specs.Begin.{worksW, beginW}
+use Rattle.works.specs.Begin.{worksW, beginW}
 use Rattle.moves.specs.Moves.{sum}
 use Rattle.meaning.specs.Meaning.{Columns, columns}
 use Rattle.meaning.specs.Passes.{RanC, ranC, leftC, runC}

@@ -1,7 +1,7 @@
 -- `numbered::begin` meets its contract: the columns made one by one are the value (proofs/Parts.antt). Assumes nothing.
 use borrow.Author.Needs.{needs}
 use Rattle.entry.specs.Entry.{sayings}
-use Rattle.numbered.specs.Begin.{accounts, held, slots}
+use Rattle.works.specs.Begin.{accounts, held, slots}
 use Rattle.numbered.proofs.Parts.{begun}
 use Rattle.numbered.proofs.begin.Statement.{statement}
 use Rattle.numbered.proofs.begin.Tie as tie

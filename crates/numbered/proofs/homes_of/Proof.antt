@@ -2,7 +2,7 @@
 -- Assumes nothing.
 use native.Mathlib.Omega.{arith}
 use borrow.Author.Needs.{needs}
-use Rattle.numbered.specs.Begin.{Accounts, accounts}
+use Rattle.works.specs.Begin.{Accounts, accounts}
 use Rattle.numbered.proofs.Members.{length-fresh, member-long, member-low}
 use Rattle.numbered.proofs.Parts.{homes-are}
 use Rattle.numbered.proofs.homes_of.Statement.{statement}

@@ -1,7 +1,7 @@
 -- `numbered::rows_of` meets its contract: the owners are copied, the classes laid and the queues chained, over fresh columns. Assumes nothing.
 use native.Mathlib.Omega.{arith}
 use borrow.Author.Needs.{needs}
-use Rattle.numbered.specs.Begin.{held}
+use Rattle.works.specs.Begin.{held}
 use Rattle.numbered.proofs.Members.{plan-long}
 use Rattle.numbered.proofs.Parts.{rows-are}
 use Rattle.numbered.proofs.rows_of.Statement.{statement}

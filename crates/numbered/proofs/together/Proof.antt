@@ -1,7 +1,7 @@
 -- `numbered::together` meets its contract: the slots are listed on a fresh column, the rest is put into place (proofs/Parts.antt).
 -- Assumes nothing.
 use borrow.Author.Needs.{needs}
-use Rattle.numbered.specs.Begin.{slots}
+use Rattle.works.specs.Begin.{slots}
 use Rattle.numbered.proofs.Parts.{works-are}
 use Rattle.numbered.proofs.together.Statement.{statement}
 use Rattle.numbered.proofs.together.Tie as tie

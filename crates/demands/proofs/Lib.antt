@@ -1,0 +1,30 @@
+-- What is proved about the rules. The theorems that others use: `Reached` (what calls keep, demand 3, refusals), `Facts`, `Fits`, `FitsGroup`,
+-- `RoomFill`, `SkippedSet`, `Taken` (what holds of all that calls make), `Transaction` and `Unique`.
+pub mod Rows
+pub mod Slots
+pub mod Steps
+pub mod Parted
+pub mod Move
+pub mod Own
+pub mod First
+pub mod Second
+pub mod Demand
+pub mod Sound
+pub mod SoundJoin
+pub mod OrderOnce
+pub mod Keeps
+pub mod Accounts
+pub mod Tidy
+pub mod TidyFill
+pub mod TidyIndex
+pub mod TidyJoin
+pub mod TidyBuffer
+pub mod Reached
+pub mod Unique
+pub mod Transaction
+pub mod Taken
+pub mod Fits
+pub mod FitsGroup
+pub mod RoomFill
+pub mod Facts
+pub mod SkippedSet

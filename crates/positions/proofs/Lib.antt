@@ -1,0 +1,2 @@
+-- The turns of the search.
+pub mod Steps
