@@ -12,8 +12,8 @@ use Rattle.queues.specs.Meant.{meant}
 use Rattle.queues.specs.Good.{Good}
 use Rattle.queues.specs.Append.{Left, left}
 use Rattle.buffer_rules.specs.Ruled.{answerOf}
-use Rattle.buffer_sizes.specs.declared.Size.{Size}
-use Rattle.buffer_sizes.specs.Sizes.{sizeFor}
+use Rattle.sizes.specs.declared.Size.{Size}
+use Rattle.sizes.specs.Sizes.{sizeFor}
 use Rattle.buffers.specs.declared.buffer.Buffer.{Buffer}
 use Rattle.buffers.specs.Buffers.{freshC, setUpC}
 use Rattle.buffers.proofs.Fresh as fresh

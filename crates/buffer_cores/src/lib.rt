@@ -57,7 +57,7 @@ pub fn set_up(
 ) -> u8
     ensures { λ r. ⌜ Gives (setUpBuffer Real m a) (setUpC m a) r (cols (now (owner .exit)) (now (kind .exit)) (now (form .exit)) (now (time .exit)) (now (address .exit)) (now (hash .exit)) (now (accounts .exit)) (now (numbers .exit))) ⌝ }
 {
-    let size = buffer_sizes::size_for(m, a);
+    let size = sizes::size_for(m, a);
     fresh(
         owner,
         kind,

@@ -25,8 +25,8 @@ use Rattle.queues.specs.Indexed.{Indexed}
 use Rattle.queues.specs.Good.{Long, GoodHalf, Zeros, Blank, Good}
 use Rattle.queues.specs.Append.{Left, left}
 use Rattle.buffer_rules.specs.Ruled.{answerOf}
-use Rattle.buffer_sizes.specs.declared.Size.{Size}
-use Rattle.buffer_sizes.specs.Sizes.{sizeFor}
+use Rattle.sizes.specs.declared.Size.{Size}
+use Rattle.sizes.specs.Sizes.{sizeFor}
 use Rattle.buffers.specs.declared.buffer.Buffer.{Buffer}
 use Rattle.buffers.specs.Buffers.{colsOf, Gives, freshC, setUpC}
 

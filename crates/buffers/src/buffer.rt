@@ -55,7 +55,7 @@ impl Buffer {
     pub fn set_up(m: u64, a: u64) -> Answer
         ensures { λ r. ⌜ Gives (setUpBuffer Real m a) (setUpC m a) (r .code) (r .buffer) ⌝ }
     {
-        let size = buffer_sizes::size_for(m, a);
+        let size = sizes::size_for(m, a);
         let code = size.code;
         Answer {
             code,

@@ -1,21 +1,19 @@
 -- What a set-up of lent columns gives, from what crate groups proves of one by value; and what is told of an answer is told of any that equals it.
 -- Assumes nothing.
 use mathlib.Core.Path.{_≡_, sym, ap, subst, _∙_}
-use mathlib.Core.Bool.{cond}
 use mathlib.Core.List.{List}
 use Prim.Native.Nat.{ℕ}
-use Rattle.numbers.proofs.Bytes.{byBool}
-use Rattle.rules.specs.Calls.{within}
 use Rattle.message.specs.declared.SeenAccount.{SeenAccount}
 use Rattle.message.specs.declared.SeenMessage.{SeenMessage}
 use Rattle.message.specs.declared.Code.{Code}
-use Rattle.message.specs.declared.Code.the-variants.{Done, SetUp}
 use Rattle.message.specs.Answers.{number as numberOf}
+use Rattle.sizes.specs.declared.Slots.{Slots}
+use Rattle.sizes.specs.Sizes.{slotsFor}
 use Rattle.slots.specs.Table.{Table}
 use Rattle.slots.specs.Join.{freshT}
 use Rattle.groups.specs.declared.group.Group.{Group}
 use Rattle.groups.specs.Groups as groups
-use Rattle.groups.proofs.SetUp.{set-up-done, set-up-refused}
+use Rattle.groups.proofs.SetUp as by-groups
 use Rattle.export_parts.specs.Parts.{Told, ToldMessage}
 use Rattle.group_reads.specs.declared.SeenId.{SeenId}
 use Rattle.group_reads.specs.declared.SeenSlot.{SeenSlot}
@@ -45,11 +43,8 @@ held t = record {
 by-value : (S : ℕ) (code : Code) (t : Table) {r : ℕ} → r ≡ numberOf code → groups.SetsUp S code (held t) → SetsUp S r t
 by-value S code t e g = subst (λ (n : ℕ). SetsUp S n t) (sym e) (record { good = g .good; ruled = g .ruled; exactly = g .exactly })
 
-pub set-up : (S : ℕ) {t : Table} {room r : ℕ} → room ≡ cond (within 1 64 S) S 1 → t ≡ freshT room → r ≡ cond (within 1 64 S) 0 1 → SetsUp S r t
-set-up S {t} {room} {r} p e c =
-    byBool (within 1 64 S)
-    (λ y. let q : room ≡ S = p ∙ rw y in let z : r ≡ 0 = c ∙ rw y in by-value S Done t z (set-up-done S (held t) y (e ∙ ap freshT q)))
-    (λ n. let q : room ≡ 1 = p ∙ rw n in let z : r ≡ 1 = c ∙ rw n in by-value S SetUp t z (set-up-refused S (held t) n (e ∙ ap freshT q)))
+pub set-up : (S : ℕ) {z : Slots} {t : Table} {r : ℕ} → z ≡ slotsFor S → t ≡ freshT (z .slots) → r ≡ numberOf (z .code) → SetsUp S r t
+set-up S {z} {t} p e c = by-value S (z .code) t c (by-groups.set-up S (held t) p e)
 
 -- ---- what is told
 

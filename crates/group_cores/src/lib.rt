@@ -74,7 +74,7 @@ pub fn set_up(
 ) -> u8
     ensures { λ r. ⌜ SetsUp s r (table (now (number .exit)) (now (ints .exit)) (now (exts .exit)) (now (accounts .exit)) (now (home .exit)) (now (owner .exit)) (now (kind .exit)) (now (form .exit)) (now (time .exit)) (now (address .exit)) (now (hash .exit)) (now (buckets .exit)) (now (numbers .exit))) ⌝ }
 {
-    let room = group_parts::room_for(s);
+    let size = sizes::slots_for(s);
     fresh(
         number,
         ints,
@@ -89,9 +89,10 @@ pub fn set_up(
         hash,
         buckets,
         numbers,
-        room,
+        size.slots,
     );
-    group_parts::code_for(s)
+    let code = size.code;
+    message::number_of(code)
 }
 
 // ---- what a group holds

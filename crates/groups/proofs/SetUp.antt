@@ -3,6 +3,7 @@ use mathlib.Core.Path.{_≡_, refl, sym, ap, subst, _∙_}
 use mathlib.Core.Bool.{true, false}
 use Prim.Native.Nat.{ℕ}
 use native.Mathlib.Omega.{arith}
+use Rattle.numbers.proofs.Bytes.{byBool}
 use Rattle.rules.specs.World.{firstOf}
 use Rattle.rules.specs.Calls.{Target, Answer, answer, within, setUpGroup}
 use Rattle.demands.proofs.Fits.{in-range}
@@ -10,6 +11,8 @@ use Rattle.message.specs.declared.Code.{Code}
 use Rattle.message.specs.declared.Code.the-variants.{Done, SetUp}
 use Rattle.message.specs.Answers.{number as numberOf}
 use Rattle.message.specs.Real.{Real}
+use Rattle.sizes.specs.declared.Slots.{Slots}
+use Rattle.sizes.specs.Sizes.{slotsFor}
 use Rattle.slots.specs.Table.{Table}
 use Rattle.slots.specs.Meant.{meant}
 use Rattle.slots.specs.Good.{Good}
@@ -22,7 +25,7 @@ abbrev answered : ℕ → Table → Answer (Target Real)
 answered c t = record { code = c; after = meant t }
 
 module _ (S : ℕ) (g : Group) where
-  pub set-up-done : within 1 64 S ≡ true → tableOf g ≡ freshT S → SetsUp S Done g
+  set-up-done : within 1 64 S ≡ true → tableOf g ≡ freshT S → SetsUp S Done g
   unfolding setUpGroup answer firstOf
   set-up-done p e =
       let x = in-range 1 64 S p in
@@ -32,10 +35,19 @@ module _ (S : ℕ) (g : Group) where
         exactly = e ∙ rw p;
       }
 
-  pub set-up-refused : within 1 64 S ≡ false → tableOf g ≡ freshT 1 → SetsUp S SetUp g
+  set-up-refused : within 1 64 S ≡ false → tableOf g ≡ freshT 1 → SetsUp S SetUp g
   unfolding setUpGroup answer firstOf
   set-up-refused f e = record {
     good = subst Good (sym e) (fresh-good 1 (omega arith) (omega arith));
     ruled = ap (answered 1) e ∙ rw (fresh-is 1, f);
     exactly = e ∙ rw f;
   }
+
+  pub set-up : {z : Slots} → z ≡ slotsFor S → tableOf g ≡ freshT (z .slots) → SetsUp S (z .code) g
+  set-up {z} p e =
+      byBool (within 1 64 S)
+      (λ y. by (record { code = Done; slots = S }) (p ∙ rw y) (set-up-done y))
+      (λ n. by (record { code = SetUp; slots = 1 }) (p ∙ rw n) (set-up-refused n))
+    where
+      by : (x : Slots) → z ≡ x → (tableOf g ≡ freshT (x .slots) → SetsUp S (x .code) g) → SetsUp S (z .code) g
+      by x q h = subst (λ (y : Slots). SetsUp S (y .code) g) (sym q) (h (e ∙ ap (λ (y : Slots). freshT (y .slots)) q))

@@ -66,15 +66,11 @@ impl Group {
     pub fn set_up(s: u64) -> Answer
         ensures { λ r. ⌜ SetsUp s (r .code) (r .group) ⌝ }
     {
-        if 1 <= s && s <= 64 {
-            return Answer {
-                code: Code::Done,
-                group: fresh(s),
-            };
-        }
+        let size = sizes::slots_for(s);
+        let code = size.code;
         Answer {
-            code: Code::SetUp,
-            group: fresh(1),
+            code,
+            group: fresh(size.slots),
         }
     }
 

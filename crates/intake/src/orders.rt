@@ -1,6 +1,7 @@
 // How far a run is, and the next line taken: read as a command, and echoed.
+ghost use mathlib.Core.Bool.{true};
 ghost use mathlib.Core.Path.{_≡_};
-ghost use Prim.Native.Nat.{_≤_};
+ghost use Prim.Native.Nat.{_<_, _≤_};
 ghost use lib.ListN.{length};
 ghost use Rattle.intake.specs.Lines.{Goes, Taking};
 use crate::input;
@@ -39,6 +40,16 @@ pub fn fresh() -> Course
         pen: pages::out::fresh(),
         on: true,
     }
+}
+
+// Whether a run goes on: it has not ended, and its lines can still be counted.
+pub fn goes_on(c: Course) -> bool
+    ensures { λ r. ⌜ (r ≡ true → c .number < 18446744073709551615) ⌝ }
+{
+    if u64::MAX <= c.number {
+        return false;
+    }
+    c.on
 }
 
 // The course with another pen. It ends where a write fails.

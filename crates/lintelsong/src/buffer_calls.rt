@@ -53,8 +53,7 @@ impl Buffer {
         requires { ⌜ GoodBuffer self ⌝ }
         ensures { λ r. ⌜ Gives (addMessage Real (offer m) (meant (colsOf self))) (addC m (colsOf self)) (r .code) (r .buffer) ⌝ }
     {
-        let b = self.held;
-        let added = changes::add(b, m);
+        let added = changes::add(self.held, m);
         let code = added.code;
         let held = added.buffer;
         Answer {
@@ -69,8 +68,7 @@ impl Buffer {
         requires { ⌜ GoodBuffer self ⌝ }
         ensures { λ r. ⌜ Gives (removeAccounts Real (rowsOf (length (now (names .entry)) / 32) (now (names .entry))) (meant (colsOf self))) (removeC (now (names .entry)) (colsOf self)) (r .code) (r .buffer) ⌝ }
     {
-        let b = self.held;
-        let removed = changes::remove(b, names);
+        let removed = changes::remove(self.held, names);
         let code = removed.code;
         let held = removed.buffer;
         Answer {
@@ -84,8 +82,7 @@ impl Buffer {
         requires { ⌜ GoodBuffer self ⌝ }
         ensures { λ r. ⌜ Gives (beginBy Real (meant (colsOf self))) (beginC (colsOf self)) (r .code) (r .buffer) ⌝ }
     {
-        let b = self.held;
-        let begun = changes::begin(b);
+        let begun = changes::begin(self.held);
         let code = begun.code;
         let held = begun.buffer;
         Answer {
@@ -99,8 +96,7 @@ impl Buffer {
         requires { ⌜ GoodBuffer self ⌝ }
         ensures { λ r. ⌜ Gives (commitBy Real (meant (colsOf self))) (commitC (colsOf self)) (r .code) (r .buffer) ⌝ }
     {
-        let b = self.held;
-        let committed = changes::commit(b);
+        let committed = changes::commit(self.held);
         let code = committed.code;
         let held = committed.buffer;
         Answer {
@@ -114,8 +110,7 @@ impl Buffer {
         requires { ⌜ GoodBuffer self ⌝ }
         ensures { λ r. ⌜ Gives (rollbackBy Real (meant (colsOf self))) (rollbackC (colsOf self)) (r .code) (r .buffer) ⌝ }
     {
-        let b = self.held;
-        let undone = changes::rollback(b);
+        let undone = changes::rollback(self.held);
         let code = undone.code;
         let held = undone.buffer;
         Answer {
@@ -131,8 +126,7 @@ impl Buffer {
         requires { ⌜ GoodBuffer self ⌝ }
         ensures { λ r. ⌜ r ≡ countsOf (meant (colsOf self)) ⌝ }
     {
-        let b = self.held;
-        b.counts()
+        self.held.counts()
     }
 
     // Whether there is a minimum chain time.
@@ -140,8 +134,7 @@ impl Buffer {
         requires { ⌜ GoodBuffer self ⌝ }
         ensures { λ r. ⌜ r ≡ isOpen (meant (colsOf self) .now .least) ⌝ }
     {
-        let b = self.held;
-        b.has_min_ext_chain_time()
+        self.held.has_min_ext_chain_time()
     }
 
     // The minimum chain time; absent reads as 2^64 - 1.
@@ -149,8 +142,7 @@ impl Buffer {
         requires { ⌜ GoodBuffer self ⌝ }
         ensures { λ r. ⌜ r ≡ leastRead (meant (colsOf self) .now .least) ⌝ }
     {
-        let b = self.held;
-        b.min_ext_chain_time()
+        self.held.min_ext_chain_time()
     }
 
     // Whether a transaction is open.
@@ -158,8 +150,7 @@ impl Buffer {
         requires { ⌜ GoodBuffer self ⌝ }
         ensures { λ r. ⌜ r ≡ isOpen (meant (colsOf self) .kept) ⌝ }
     {
-        let b = self.held;
-        b.in_tx()
+        self.held.in_tx()
     }
 
     // How many messages the queue of an account holds; 0 if it has none.
@@ -167,8 +158,7 @@ impl Buffer {
         requires { ⌜ GoodBuffer self ⌝ }
         ensures { λ r. ⌜ r ≡ queuedOf Real name (meant (colsOf self) .now) ⌝ }
     {
-        let b = self.held;
-        buffer_walks::account_messages_count(b, name)
+        buffer_walks::account_messages_count(self.held, name)
     }
 
     // Whether the buffer is filled: by count, when it holds at least `limit` messages; by slots, never.
@@ -176,8 +166,7 @@ impl Buffer {
         requires { ⌜ GoodBuffer self ⌝ }
         ensures { λ r. ⌜ r ≡ filledBy limit (meant (colsOf self) .now) ⌝ }
     {
-        let b = self.held;
-        b.check_is_filled(limit)
+        self.held.check_is_filled(limit)
     }
 
     // ---- the walk in order
@@ -187,8 +176,7 @@ impl Buffer {
         requires { ⌜ GoodBuffer self ⌝ }
         ensures { λ r. ⌜ r ≡ seenAccount (accountAt Real (place .0) (meant (colsOf self) .now)) ⌝ }
     {
-        let b = self.held;
-        buffer_walks::account_at(b, place)
+        buffer_walks::account_at(self.held, place)
     }
 
     // The message at a position of the queue at a place of the order; none past either end.
@@ -196,7 +184,6 @@ impl Buffer {
         requires { ⌜ GoodBuffer self ⌝ }
         ensures { λ r. ⌜ r ≡ seenMessage (messageAt Real (place .0) position (meant (colsOf self) .now)) ⌝ }
     {
-        let b = self.held;
-        buffer_walks::message_at(b, place, position)
+        buffer_walks::message_at(self.held, place, position)
     }
 }

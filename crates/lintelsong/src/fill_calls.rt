@@ -37,10 +37,17 @@ impl Buffer {
         ensures { λ r. ⌜ Fills (callOn self group skipped asked (now (names .entry)) (now (verdicts .entry)) (now (costs .entry))) (keys (now (lts .entry)) (now (hashes .entry))) (saysIn r) (leftIn r (keys (now (lts .exit)) (now (hashes .exit)))) ⌝ }
         ensures { λ r. ⌜ MeetsDemand3 (callOn self group skipped asked (now (names .entry)) (now (verdicts .entry)) (now (costs .entry))) (keys (now (lts .entry)) (now (hashes .entry))) (saysIn r) (leftIn r (keys (now (lts .exit)) (now (hashes .exit)))) ⌝ }
     {
-        let b = self.held;
-        let g = group.held;
-        let s = skipped.held;
-        let f = filling::fill(b, g, s, asked, names, verdicts, costs, lts, hashes);
+        let f = filling::fill(
+            self.held,
+            group.held,
+            skipped.held,
+            asked,
+            names,
+            verdicts,
+            costs,
+            lts,
+            hashes,
+        );
         let code = f.code;
         let packed = f.buffer;
         let grown = f.group;

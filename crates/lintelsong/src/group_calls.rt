@@ -54,8 +54,7 @@ impl Group {
         requires { ⌜ GoodGroup self ⌝ }
         ensures { λ r. ⌜ r ≡ countsOf (meant (tableOf self)) ⌝ }
     {
-        let g = self.held;
-        g.counts()
+        self.held.counts()
     }
 
     // Whether it has no slot.
@@ -63,8 +62,7 @@ impl Group {
         requires { ⌜ GoodGroup self ⌝ }
         ensures { λ r. ⌜ r ≡ isNil (meant (tableOf self) .now .slots) ⌝ }
     {
-        let g = self.held;
-        g.is_empty()
+        self.held.is_empty()
     }
 
     // Whether an account has a list in the group.
@@ -72,8 +70,7 @@ impl Group {
         requires { ⌜ GoodGroup self ⌝ }
         ensures { λ r. ⌜ r ≡ has Real name (meant (tableOf self) .now .lists) ⌝ }
     {
-        let g = self.held;
-        group_walks::contains_account(g, name)
+        group_walks::contains_account(self.held, name)
     }
 
     // Whether it is filled: at least as many slots as asked for, and every bucket below the height empty.
@@ -81,8 +78,7 @@ impl Group {
         requires { ⌜ GoodGroup self ⌝ }
         ensures { λ r. ⌜ r ≡ isFilled Real asked height (meant (tableOf self) .now) ⌝ }
     {
-        let g = self.held;
-        g.check_is_filled(asked, height)
+        self.held.check_is_filled(asked, height)
     }
 
     // The last slot number that was given; it is not the number of slots.
@@ -90,8 +86,7 @@ impl Group {
         requires { ⌜ GoodGroup self ⌝ }
         ensures { λ r. ⌜ r ≡ seenId (meant (tableOf self) .now .last) ⌝ }
     {
-        let g = self.held;
-        g.last_slot()
+        self.held.last_slot()
     }
 
     // ---- the walks
@@ -101,8 +96,7 @@ impl Group {
         requires { ⌜ GoodGroup self ⌝ }
         ensures { λ r. ⌜ r ≡ seenSlot (nth position (meant (tableOf self) .now .slots)) ⌝ }
     {
-        let g = self.held;
-        group_walks::slot_at(g, position)
+        group_walks::slot_at(self.held, position)
     }
 
     // The k-th account of the slot at a position; none past either end.
@@ -110,8 +104,7 @@ impl Group {
         requires { ⌜ GoodGroup self ⌝ }
         ensures { λ r. ⌜ r ≡ seenAccount (nth k (accountsAt (nth position (meant (tableOf self) .now .slots)))) ⌝ }
     {
-        let g = self.held;
-        group_walks::slot_account_at(g, position, k)
+        group_walks::slot_account_at(self.held, position, k)
     }
 
     // The account with the k-th list; none past the end.
@@ -119,8 +112,7 @@ impl Group {
         requires { ⌜ GoodGroup self ⌝ }
         ensures { λ r. ⌜ r ≡ seenAccount (nth k (accountsOf Real (meant (tableOf self) .now .lists))) ⌝ }
     {
-        let g = self.held;
-        group_walks::account_at(g, k)
+        group_walks::account_at(self.held, k)
     }
 
     // The k-th message of an account's list; none past the end or without a list.
@@ -128,8 +120,7 @@ impl Group {
         requires { ⌜ GoodGroup self ⌝ }
         ensures { λ r. ⌜ r ≡ seenMessage (nth k (listAt Real name (meant (tableOf self) .now .lists))) ⌝ }
     {
-        let g = self.held;
-        group_walks::message_at(g, name, k)
+        group_walks::message_at(self.held, name, k)
     }
 
     // The k-th slot number that the bucket of a count lists; none past either end.
@@ -137,8 +128,7 @@ impl Group {
         requires { ⌜ GoodGroup self ⌝ }
         ensures { λ r. ⌜ r ≡ seenId (nth k (getD (meant (tableOf self) .now .index) count [])) ⌝ }
     {
-        let g = self.held;
-        group_walks::bucket_at(g, count, k)
+        group_walks::bucket_at(self.held, count, k)
     }
 
     // Writes the Display line to the start of what is lent and says how long it is; what is lent stays as it is where the line does not fit.
@@ -146,8 +136,7 @@ impl Group {
         requires { ⌜ GoodGroup self ⌝ }
         ensures { λ r. ⌜ Displays (meant (tableOf self)) (now (out .entry)) (now (out .exit)) r ⌝ }
     {
-        let g = self.held;
-        g.display(out)
+        self.held.display(out)
     }
 
     // ---- join
@@ -157,9 +146,7 @@ impl Group {
         requires { ⌜ GoodGroup self × GoodGroup right ⌝ }
         ensures { λ r. ⌜ Joins self right (r .code) (r .left) (r .right) ⌝ }
     {
-        let mine = self.held;
-        let theirs = right.held;
-        let joined = joining::join(mine, theirs);
+        let joined = joining::join(self.held, right.held);
         let code = joined.code;
         let l = joined.left;
         let r = joined.right;

@@ -24,8 +24,7 @@ impl Skipped {
         requires { ⌜ GoodSet self ⌝ }
         ensures { λ r. ⌜ r ≡ length (accountsIn self) ⌝ }
     {
-        let s = self.held;
-        s.len()
+        self.held.len()
     }
 
     // Whether it holds an account.
@@ -33,8 +32,7 @@ impl Skipped {
         requires { ⌜ GoodSet self ⌝ }
         ensures { λ r. ⌜ r ≡ isIn Real name (accountsIn self) ⌝ }
     {
-        let s = self.held;
-        s.contains(name)
+        self.held.contains(name)
     }
 
     // The account at a position, in the order in which they joined; none past the end.
@@ -42,7 +40,6 @@ impl Skipped {
         requires { ⌜ GoodSet self ⌝ }
         ensures { λ r. ⌜ r ≡ seenAccount (nth position (accountsIn self)) ⌝ }
     {
-        let s = self.held;
-        s.account_at(position)
+        self.held.account_at(position)
     }
 }

@@ -108,6 +108,14 @@ module _ (ext : ℕ → Bool) (time : ℕ → ℕ) (A : Args (Numbers ext time))
     enters = room-for n home member (sizes .home-long) (λ i l. (v .parties i l, homed i l)) (v .once);
   }
 
+  -- and its home is a slot
+  in-slot : (i : ℕ) → i < n → getD home (getD member i 0) 0 < 64
+  in-slot i l =
+      byBool (ltb (getD home (getD member i 0) 0) (b .slots))
+      (λ t. let z = ltb-true (getD home (getD member i 0) 0) (b .slots) t in omega (arith, v .few))
+      (λ t. let e = v .lodged (getD member i 0) (v .parties i l) (ltb-false (getD home (getD member i 0) 0) (b .slots) t) in
+      absurd (eqb-false nowhere (getD home (getD member i 0) 0) (homed i l) (sym e)))
+
   good : Good f cost m
   good = record {
     store = good-store;
@@ -118,6 +126,7 @@ module _ (ext : ℕ → Bool) (time : ℕ → ℕ) (A : Args (Numbers ext time))
     };
     cost-long = sizes .cost-long;
     parties = v .parties;
+    homes = in-slot;
   }
 
   fits : Fits ext time A f b 0 m

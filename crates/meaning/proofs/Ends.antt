@@ -104,6 +104,7 @@ module _ (ext : ℕ → Bool) (time : ℕ → ℕ) (A : Args (Numbers ext time))
       };
       cost-long = v .good .cost-long;
       parties = v .good .parties;
+      homes = v .good .homes;
     };
     fits = costs ext time A class cost f b (v .ops) m a (v .fits) 0 (omega arith) (f .places) _ (omega (arith, v .fits .total));
     state = ap (λ (x : State (Numbers ext time)). billed x) (v .state) ∙ billed-is;

@@ -1,17 +1,19 @@
 -- Every routine leaves well-formed columns well formed, and their queues chained: a check, passing over, a move, and the walks made of them,
 -- by induction. An account of the group stays where it is. Assumes nothing.
-use mathlib.Core.Path.{_≡_}
-use mathlib.Core.List.{List, [], _∷_}
+use mathlib.Core.Path.{_≡_, sym, ap}
+use mathlib.Core.Logic.{_⊎_, inl, inr, ⊎-elim}
+use mathlib.Core.List.{List}
 use mathlib.Core.Bool.{Bool, true, false, cond, not}
 use Prim.Native.Nat.{ℕ, zero, suc, _+_, _-_, _<_, _≤_}
 use native.Mathlib.Omega.{arith}
 use lib.Dec.{eqb, leb}
 use lib.ListN.{length, getD, set}
-use lib.Seq.{getD-set-other}
-use borrow.Author.Tests.{eqb-true, eqb-false}
+use lib.Seq.{getD-set-same, getD-set-other}
+use borrow.Author.Tests.{eq-eqb, eqb-true, eqb-false}
 use Rattle.moves.specs.declared.Fixed.{Fixed}
 use Rattle.moves.specs.Moves.{Store, store, Marks, marks, checkMarks, moveStore, tookStore, enterHomes, takeC, wantedOf, nowhere}
 use Rattle.moves.specs.Good.{GoodMarks}
+use Rattle.moves.proofs.Counts.{some-pass}
 use Rattle.moves.proofs.Keeps.{check-good, pass-good, tally-good, move-good}
 use Rattle.moves.proofs.Chains.{pass-linked, move-linked}
 use Rattle.numbers.proofs.Bytes.{byBool}
@@ -27,19 +29,12 @@ module _ (cost : List ℕ) (p : ℕ) (m : Marks) where
   unfolding checkMarks
   check-accounts = byBool (eqb (getD (m .mark) p 0) 2) (λ e. rw e) (λ e. byBool (eqb (getD (m .mark) p 0) 1) (λ h. rw (e, h)) (λ h. rw (e, h)))
 
-abbrev pub Parties : Store → Type 0
-Parties s = (g : ℕ) → g < s .tally .accounts → getD (s .member) g 0 < 1280
-
-less : (p : ℕ) → p < 1280 → (i : ℕ) (xs : List ℕ) → getD (set xs i p) i 0 < 1280
-less p q zero [] = omega arith
-less p q (suc i) [] = omega arith
-less p q zero (x ∷ xs) = q
-less p q (suc i) (x ∷ xs) = less p q i xs
-
-move-parties : (class : List ℕ) (f : Fixed) (p j : ℕ) (s : Store) → p < 1280 → length (s .member) ≡ 1280 → Parties s
-    → Parties (moveStore class f p j s)
+-- what holds of the group as it was, and of the group with a party in it that was not, holds after a move
+pub move-roll : (class : List ℕ) (f : Fixed) (p j : ℕ) (s : Store) (P : (home member : List ℕ) → ℕ → Type 0) → P (s .home) (s .member) (s .tally .accounts)
+    → (getD (s .home) p 0 ≡ nowhere → P (set (s .home) p j) (set (s .member) (s .tally .accounts) p) (s .tally .accounts + 1))
+    → P (moveStore class f p j s .home) (moveStore class f p j s .member) (moveStore class f p j s .tally .accounts)
 unfolding moveStore tookStore enterHomes
-move-parties class f p j s l w h =
+move-roll class f p j s P h k =
     byBool (leb (f .places) p)
     (λ e. rw e h)
     (λ e. rw e (byBool (eqb (wantedOf f p j s) 0)
@@ -47,10 +42,39 @@ move-parties class f p j s l w h =
     (λ z. rw z (byBool (eqb (getD (s .home) p 0) nowhere)
     (λ a. rw a (byBool (eqb (length (takeC p class (wantedOf f p j s) (f .rows) 0 (s .owner) .rows)) 0)
     (λ b. rw b h)
-    (λ b. rw b (λ g k. byBool (eqb g (s .tally .accounts))
-    (λ c. let d = eqb-true g (s .tally .accounts) c in rw d (less p l (s .tally .accounts) (s .member)))
-    (λ c. let d = eqb-false g (s .tally .accounts) c in rw (getD-set-other (s .member) (s .tally .accounts) g p 0 d) (h g (omega arith)))))))
+    (λ b. rw b (k (eqb-true (getD (s .home) p 0) nowhere a)))))
     (λ a. rw a h)))))
+
+-- the first n members are parties, and live in slots
+abbrev Parties : (member : List ℕ) → ℕ → Type 0
+Parties member n = (g : ℕ) → g < n → getD member g 0 < 1280
+
+abbrev Homes : (home member : List ℕ) → ℕ → Type 0
+Homes home member n = (g : ℕ) → g < n → getD home (getD member g 0) 0 < 64
+
+-- where a party enters that was not in the group
+module _ (home member : List ℕ) (n : ℕ) (h : Homes home member n) (p j : ℕ) (free : getD home p 0 ≡ nowhere) where
+  pub others-stay : (g : ℕ) → g < n → getD (set member n p) g 0 ≡ getD member g 0
+  others-stay g l = getD-set-other member n g p 0 (λ e. omega arith)
+
+  pub others-live : (g : ℕ) → g < n → getD (set home p j) (getD (set member n p) g 0) 0 ≡ getD home (getD member g 0) 0
+  others-live g l =
+      rw (others-stay g l)
+      (getD-set-other home p (getD member g 0) j 0 (λ e. let w = h g l in let z : getD home (getD member g 0) 0 ≡ nowhere = rw e free in omega arith))
+
+  -- it is the last member
+  module _ (room : n < length member) where
+    newcomer : (g : ℕ) → g < n + 1 → (g < n) ⊎ (getD (set member n p) g 0 ≡ p)
+    newcomer g l =
+        byBool (eqb g n)
+        (λ c. inr (let d = eqb-true g n c in rw d (getD-set-same member n p 0 room)))
+        (λ c. inl (let d = eqb-false g n c in omega arith))
+
+    enters-parties : p < 1280 → Parties member n → Parties (set member n p) (n + 1)
+    enters-parties l ps g k = ⊎-elim (λ q. rw (others-stay g q) (ps g q)) (λ e. rw e l) (newcomer g k)
+
+    enters-homes : p < length home → j < 64 → Homes (set home p j) (set member n p) (n + 1)
+    enters-homes l jl g k = ⊎-elim (λ q. rw (others-live g q) (h g q)) (λ e. omega (arith, ap (λ x. getD (set home p j) x 0) e, getD-set-same home p j 0 l)) (newcomer g k)
 
 move-joined : (class : List ℕ) (f : Fixed) (p j : ℕ) (s : Store) → moveStore class f p j s .tally .joined ≡ s .tally .joined
 unfolding moveStore tookStore enterHomes
@@ -70,17 +94,32 @@ module _ {f : Fixed} {cost : List ℕ} {m : Columns} (g : Good f cost m) (class 
     marks = check-good cost p (marksOf m) l (g .marks);
     cost-long = g .cost-long;
     parties = λ i h. g .parties i (omega (arith, check-accounts cost p (marksOf m)));
+    homes = λ i h. g .homes i (omega (arith, check-accounts cost p (marksOf m)));
   }
 
   pub pass-keeps : Good f cost (passC class f p m)
-  pass-keeps = record { store = pass-good class f p (m .store) (g .store); marks = g .marks; cost-long = g .cost-long; parties = g .parties }
+  pass-keeps = record {
+    store = pass-good class f p (m .store) (g .store);
+    marks = g .marks;
+    cost-long = g .cost-long;
+    parties = g .parties;
+    homes = g .homes;
+  }
+
+  -- the party that enters the group has a cell left for it
+  room-left : getD (m .store .home) p 0 ≡ nowhere → m .store .tally .accounts < length (m .store .member)
+  room-left e =
+      omega (arith, g .store .enters, g .store .member-long, some-pass (eqb nowhere) (m .store .home) p (omega (arith, g .store .home-long)) (eq-eqb nowhere _ (sym e)))
 
   pub move-keeps : (j : ℕ) → j < 64 → Good f cost (moveC class f p j m)
   move-keeps j h = record {
     store = move-good class f p j (m .store) l h (g .store);
     marks = moved-marks;
     cost-long = g .cost-long;
-    parties = move-parties class f p j (m .store) l (g .store .member-long) (g .parties);
+    parties = move-roll class f p j (m .store) (λ home member n. Parties member n) (g .parties)
+        (λ e. enters-parties (m .store .home) (m .store .member) (m .store .tally .accounts) (g .homes) p j e (room-left e) l (g .parties));
+    homes = move-roll class f p j (m .store) Homes (g .homes)
+        (λ e. enters-homes (m .store .home) (m .store .member) (m .store .tally .accounts) (g .homes) p j e (room-left e) (omega (arith, g .store .home-long)) h);
   }
     where
       moved-marks : GoodMarks (marks (m .mark) (m .joined) (moveStore class f p j (m .store) .tally))
@@ -114,16 +153,7 @@ module _ {f : Fixed} {class cost : List ℕ} {m : Columns} (g : Ready f class co
   meet-keeps = byBool (freeC p m) (λ e. rw e try-keeps) (λ e. rw e (pass-ready g p l))
 
 pub move-more : (class : List ℕ) (f : Fixed) (p j : ℕ) (s : Store) → s .tally .accounts ≤ moveStore class f p j s .tally .accounts
-unfolding moveStore tookStore enterHomes
-move-more class f p j s =
-    byBool (leb (f .places) p)
-    (λ e. rw e (omega arith))
-    (λ e. rw e (byBool (eqb (wantedOf f p j s) 0)
-    (λ z. rw z (omega arith))
-    (λ z. rw z (byBool (eqb (getD (s .home) p 0) nowhere)
-    (λ a. rw a (byBool (eqb (length (takeC p class (wantedOf f p j s) (f .rows) 0 (s .owner) .rows)) 0) (λ b. rw b (omega arith))
-    (λ b. rw b (omega arith))))
-    (λ a. rw a (omega arith))))))
+move-more class f p j s = move-roll class f p j s (λ home member n. s .tally .accounts ≤ n) (omega arith) (λ e. omega arith)
 
 pub try-more : (class cost : List ℕ) (f : Fixed) (j p : ℕ) (m : Columns) → m .store .tally .accounts ≤ tryC class cost f j p m .store .tally .accounts
 unfolding tryC
@@ -134,7 +164,7 @@ try-more class cost f j p m =
     (λ h. rw h (omega (arith, e, move-more class f p j (checkC cost p m .store))))
 
 -- what both branches have, a test that chooses between them has
-either : {A : Type 0} (P : A → Type 0) (b : Bool) {x y : A} → P x → P y → P (cond b x y)
+pub either : {A : Type 0} (P : A → Type 0) (b : Bool) {x y : A} → P x → P y → P (cond b x y)
 either P true h k = h
 either P false h k = k
 

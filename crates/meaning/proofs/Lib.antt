@@ -10,6 +10,9 @@ pub mod Move
 pub mod MoveFits
 pub mod Keeps
 pub mod Kept
+pub mod Through
+pub mod Stands
+pub mod OneSlot
 pub mod Sims
 pub mod Lines
 pub mod Opens

@@ -17,6 +17,8 @@ pub record Good (f : Fixed) (cost : List ℕ) (m : Columns) : Type 0 where
   pub marks : GoodMarks (marksOf m)
   pub cost-long : length cost ≡ 1280
   pub parties : (g : ℕ) → g < m .store .tally .accounts → getD (m .store .member) g 0 < 1280
+  -- the home of a member is a slot
+  pub homes : (g : ℕ) → g < m .store .tally .accounts → getD (m .store .home) (getD (m .store .member) g 0) 0 < 64
 
 -- and a plan that chains their queues: what the routines need
 pub record Ready (f : Fixed) (plan cost : List ℕ) (m : Columns) : Type 0 where

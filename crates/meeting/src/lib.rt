@@ -1,14 +1,16 @@
 // The walk meets an account, on lent columns of numbers: the tests of an account and of a slot, and one account checked, passed over or moved. A
-// slot is given by its position among the slots, an account by its party; the places of the order are the parties below `places`.
+// slot is given by its position among the slots and its record, an account by its party; the places of the order are the parties below `places`.
 ghost use mathlib.Core.Path.{_≡_};
 ghost use mathlib.Core.Bool.{cond, false};
-ghost use Prim.Native.Nat.{_<_};
+ghost use Prim.Native.Nat.{_+_, _<_};
 ghost use lib.ListN.{length};
-ghost use Rattle.moves.specs.Moves.{heldAt};
+ghost use Rattle.moves.specs.Moves.{alone};
 ghost use Rattle.meaning.specs.Meaning.{columns};
 ghost use Rattle.meaning.specs.Walks.{Ready, saysSkip, movesAt, fullC, tryC, meetC};
 use moves::Fixed;
+use moves::Slot;
 use moves::Tally;
+use transfers::Moved;
 
 const NOWHERE: u8 = 255;
 
@@ -25,20 +27,18 @@ pub fn skips(mark: u8) -> bool
 }
 
 // Whether the slot has no room left.
-pub fn full(ints: &[u8; 64], exts: &[u8; 64], slot: usize, height: usize) -> bool
-    requires { ⌜ (slot < 64) × ((length (now ints) ≡ 64) × (length (now exts) ≡ 64)) ⌝ }
-    ensures { λ r. ⌜ r ≡ fullC height (heldAt (now (ints .entry)) (now (exts .entry)) slot) ⌝ }
+pub fn full(record: Slot, height: usize) -> bool
+    ensures { λ r. ⌜ r ≡ fullC height («record» .ints + «record» .exts) ⌝ }
 {
-    height <= moves::held(ints, exts, slot)
+    height <= moves::held(record)
 }
 
 // After a move, and only then, the slot is looked at: is it full?
-pub fn stops(moved: bool, ints: &[u8; 64], exts: &[u8; 64], slot: usize, height: usize) -> bool
-    requires { ⌜ (slot < 64) × ((length (now ints) ≡ 64) × (length (now exts) ≡ 64)) ⌝ }
-    ensures { λ r. ⌜ r ≡ cond moved (fullC height (heldAt (now (ints .entry)) (now (exts .entry)) slot)) false ⌝ }
+pub fn stops(moved: bool, record: Slot, height: usize) -> bool
+    ensures { λ r. ⌜ r ≡ cond moved (fullC height («record» .ints + «record» .exts)) false ⌝ }
 {
     if moved {
-        return full(ints, exts, slot, height);
+        return full(record, height);
     }
     false
 }
@@ -63,25 +63,27 @@ pub fn attempt(
     taken: &mut [u16; 1024],
     home: &mut [u8; 1280],
     member: &mut [u16; 1280],
-    ints: &mut [u8; 64],
-    exts: &mut [u8; 64],
     mark: &mut [u8; 1280],
     cost: &[u64; 1280],
     joined: &mut [u16; 1280],
+    record: Slot,
     fixed: Fixed,
     party: usize,
     slot: usize,
     tally: Tally,
-) -> Tally
-    requires { ⌜ Ready fixed (now plan) (now cost) (columns (now owner) (now taken) (now home) (now member) (now ints) (now exts) (now mark) (now joined) tally) ⌝ }
+) -> Moved
+    requires { ⌜ Ready fixed (now plan) (now cost) (columns (now owner) (now taken) (now home) (now member) (alone slot («record» .ints)) (alone slot («record» .exts)) (now mark) (now joined) tally) ⌝ }
     requires { ⌜ (party < 1280) × (slot < 64) ⌝ }
-    ensures { λ r. ⌜ columns (now (owner .exit)) (now (taken .exit)) (now (home .exit)) (now (member .exit)) (now (ints .exit)) (now (exts .exit)) (now (mark .exit)) (now (joined .exit)) r ≡ tryC (now (plan .entry)) (now (cost .entry)) fixed slot party (columns (now (owner .entry)) (now (taken .entry)) (now (home .entry)) (now (member .entry)) (now (ints .entry)) (now (exts .entry)) (now (mark .entry)) (now (joined .entry)) tally) ⌝ }
+    ensures { λ r. ⌜ columns (now (owner .exit)) (now (taken .exit)) (now (home .exit)) (now (member .exit)) (alone slot (r .record .ints)) (alone slot (r .record .exts)) (now (mark .exit)) (now (joined .exit)) (r .tally) ≡ tryC (now (plan .entry)) (now (cost .entry)) fixed slot party (columns (now (owner .entry)) (now (taken .entry)) (now (home .entry)) (now (member .entry)) (alone slot («record» .ints)) (alone slot («record» .exts)) (now (mark .entry)) (now (joined .entry)) tally) ⌝ }
 {
     let skip = skips(mark[party]);
     let checked = moves::check(mark, cost, joined, party, tally);
     if skip {
         takes::pass_over(owner, plan, fixed.rows, party);
-        return checked;
+        return Moved {
+            record,
+            tally: checked,
+        };
     }
     transfers::move_to(
         owner,
@@ -89,8 +91,7 @@ pub fn attempt(
         taken,
         home,
         member,
-        ints,
-        exts,
+        record,
         fixed,
         party,
         slot,
@@ -105,23 +106,22 @@ pub fn meet(
     taken: &mut [u16; 1024],
     home: &mut [u8; 1280],
     member: &mut [u16; 1280],
-    ints: &mut [u8; 64],
-    exts: &mut [u8; 64],
     mark: &mut [u8; 1280],
     cost: &[u64; 1280],
     joined: &mut [u16; 1280],
+    record: Slot,
     fixed: Fixed,
     party: usize,
     slot: usize,
     tally: Tally,
-) -> Tally
-    requires { ⌜ Ready fixed (now plan) (now cost) (columns (now owner) (now taken) (now home) (now member) (now ints) (now exts) (now mark) (now joined) tally) ⌝ }
+) -> Moved
+    requires { ⌜ Ready fixed (now plan) (now cost) (columns (now owner) (now taken) (now home) (now member) (alone slot («record» .ints)) (alone slot («record» .exts)) (now mark) (now joined) tally) ⌝ }
     requires { ⌜ (party < 1280) × (slot < 64) ⌝ }
-    ensures { λ r. ⌜ columns (now (owner .exit)) (now (taken .exit)) (now (home .exit)) (now (member .exit)) (now (ints .exit)) (now (exts .exit)) (now (mark .exit)) (now (joined .exit)) r ≡ meetC (now (plan .entry)) (now (cost .entry)) fixed slot party (columns (now (owner .entry)) (now (taken .entry)) (now (home .entry)) (now (member .entry)) (now (ints .entry)) (now (exts .entry)) (now (mark .entry)) (now (joined .entry)) tally) ⌝ }
+    ensures { λ r. ⌜ columns (now (owner .exit)) (now (taken .exit)) (now (home .exit)) (now (member .exit)) (alone slot (r .record .ints)) (alone slot (r .record .exts)) (now (mark .exit)) (now (joined .exit)) (r .tally) ≡ meetC (now (plan .entry)) (now (cost .entry)) fixed slot party (columns (now (owner .entry)) (now (taken .entry)) (now (home .entry)) (now (member .entry)) (alone slot («record» .ints)) (alone slot («record» .exts)) (now (mark .entry)) (now (joined .entry)) tally) ⌝ }
 {
     if home[party] != NOWHERE {
         takes::pass_over(owner, plan, fixed.rows, party);
-        return tally;
+        return Moved { record, tally };
     }
     attempt(
         owner,
@@ -129,11 +129,10 @@ pub fn meet(
         taken,
         home,
         member,
-        ints,
-        exts,
         mark,
         cost,
         joined,
+        record,
         fixed,
         party,
         slot,

@@ -7,7 +7,7 @@ use mathlib.Core.Path.{_≡_}
 use mathlib.Core.List.{List, [], _∷_}
 use mathlib.Core.Bool.{Bool, false, cond}
 use Prim.Native.Nat.{ℕ, zero, suc, _+_, _-_, _^_, _≤_, min}
-use lib.ListN.{length, getD, set}
+use lib.ListN.{length, getD, set, replicate}
 use lib.Dec.{eqb, leb}
 use Rattle.columns.specs.Lists.{mapI, countI}
 use Rattle.columns.specs.Laid.{laidAt}
@@ -161,6 +161,10 @@ store o w h p i e t = record { owner = o; taken = w; home = h; member = p; ints 
 -- how many messages the slot at j holds
 abbrev pub heldAt : (ints exts : List ℕ) → ℕ → ℕ
 heldAt is es j = getD is j 0 + getD es j 0
+
+-- the column of a table in which only the slot at j holds anything: x
+unfoldable pub alone : (j x : ℕ) → List ℕ
+alone j x = set (replicate 64 0) j x
 
 -- "the lesser of queue length and remaining room"
 unfoldable pub wantedC : (length height held : ℕ) → ℕ

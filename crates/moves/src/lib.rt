@@ -1,12 +1,13 @@
-// What a check and a move write, on lent columns of numbers. An account is a number, its party; the parties below `places` are the accounts of
-// the order, by their place. A message is a row: `owner` is the party whose queue holds it, or a mark of a row that was taken or dropped.
+// What a check and a move write, on lent columns of numbers and the record of a slot, which comes back as it is then. An account is a number,
+// its party; the parties below `places` are the accounts of the order, by their place. A message is a row: `owner` is the party whose queue
+// holds it, or a mark of a row that was taken or dropped.
 // `plan` does not change in a fill: cells 0 to 1,023 are the class of each row, 0 for an internal, 1 for an external, 2 for a droppable one;
 // 1,024 to 2,047 the next row of the same queue; 2,048 to 2,303 the first row of each place.
 ghost use mathlib.Core.Path.{_≡_};
 ghost use Prim.Native.Nat.{_+_, _-_, _<_, _≤_};
-ghost use lib.ListN.{length, getD, set};
+ghost use lib.ListN.{length};
 ghost use lib.Dec.{eqb};
-ghost use Rattle.moves.specs.Moves.{marks, checkMarks, homes, enterHomes, heldAt, nowhere};
+ghost use Rattle.moves.specs.Moves.{marks, checkMarks, homes, enterHomes, nowhere};
 ghost use Rattle.moves.specs.Good.{GoodMarks, many};
 
 // The counts of a fill: parties that joined the skipped set, accounts in the group, rows taken, operations.
@@ -22,6 +23,12 @@ pub struct Fixed {
     pub rows: usize,
     pub places: usize,
     pub height: usize,
+}
+
+// The record of a slot: how many internals and how many externals it holds.
+pub struct Slot {
+    pub ints: u8,
+    pub exts: u8,
 }
 
 // What a take got: messages collected, the internals among them, and rows popped from the queue.
@@ -78,23 +85,22 @@ pub fn check(
 
 // ---- a slot, and who is in the group
 
-// How many messages the slot at a position holds.
-pub fn held(ints: &[u8; 64], exts: &[u8; 64], slot: usize) -> usize
-    requires { ⌜ (slot < 64) × ((length (now ints) ≡ 64) × (length (now exts) ≡ 64)) ⌝ }
-    ensures { λ r. ⌜ r ≡ heldAt (now (ints .entry)) (now (exts .entry)) slot ⌝ }
+// How many messages a slot holds.
+pub fn held(record: Slot) -> usize
+    ensures { λ r. ⌜ r ≡ «record» .ints + «record» .exts ⌝ }
 {
-    numbers::wide8(ints[slot]) + numbers::wide8(exts[slot])
+    numbers::wide8(record.ints) + numbers::wide8(record.exts)
 }
 
 // The slot's counts grow by what was taken.
-pub fn grow(ints: &mut [u8; 64], exts: &mut [u8; 64], slot: usize, took: Took)
-    requires { ⌜ (slot < 64) × ((length (now ints) ≡ 64) × (length (now exts) ≡ 64)) ⌝ }
-    requires { ⌜ (took .ints ≤ took .got) × (heldAt (now ints) (now exts) slot + took .got ≤ 16) ⌝ }
-    ensures { λ _. ⌜ now (ints .exit) ≡ set (now (ints .entry)) slot (getD (now (ints .entry)) slot 0 + took .ints) ⌝ }
-    ensures { λ _. ⌜ now (exts .exit) ≡ set (now (exts .entry)) slot (getD (now (exts .entry)) slot 0 + (took .got - took .ints)) ⌝ }
+pub fn grow(record: Slot, took: Took) -> Slot
+    requires { ⌜ (took .ints ≤ took .got) × («record» .ints + «record» .exts + took .got ≤ 16) ⌝ }
+    ensures { λ r. ⌜ (r .ints ≡ «record» .ints + took .ints) × (r .exts ≡ «record» .exts + (took .got - took .ints)) ⌝ }
 {
-    ints[slot] = (numbers::wide8(ints[slot]) + took.ints) as u8;
-    exts[slot] = (numbers::wide8(exts[slot]) + (took.got - took.ints)) as u8;
+    Slot {
+        ints: (numbers::wide8(record.ints) + took.ints) as u8,
+        exts: (numbers::wide8(record.exts) + (took.got - took.ints)) as u8,
+    }
 }
 
 // After a take: a party that is new to the group enters it at the slot; where nothing was got its list goes again, at one operation.

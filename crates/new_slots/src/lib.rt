@@ -2,6 +2,7 @@
 ghost use mathlib.Core.Path.{_≡_};
 ghost use Prim.Native.Nat.{_+_, _<_};
 ghost use Rattle.new_slots.specs.Fronts.{furtherOn, droppedAt};
+use moves::Slot;
 use moves::Tally;
 use numbers::SlotId;
 
@@ -12,9 +13,10 @@ pub struct Front {
     pub left: usize,
 }
 
-// Where the first pass stopped: the next place, the counts, how many slots there are, and the last number given.
+// Where the first pass stopped: the next place, the table of the slots, the counts, how many slots there are, and the last number given.
 pub struct Passed {
     pub at: usize,
+    pub table: [Slot; 64],
     pub tally: Tally,
     pub slots: usize,
     pub last: SlotId,
@@ -42,12 +44,13 @@ pub fn onward(front: Front) -> Front
 }
 
 // The next slot stays empty and is dropped: there is one slot less than was begun, but its number is given.
-pub fn dropped(front: Front, at: usize, tally: Tally) -> Passed
+pub fn dropped(front: Front, at: usize, table: [Slot; 64], tally: Tally) -> Passed
     requires { ⌜ front .given < 65535 ⌝ }
-    ensures { λ r. ⌜ r ≡ droppedAt front at tally ⌝ }
+    ensures { λ r. ⌜ r ≡ droppedAt front at table tally ⌝ }
 {
     Passed {
         at,
+        table,
         tally,
         slots: front.slot,
         last: SlotId((front.given + 1) as u16),

@@ -34,12 +34,13 @@ module _ {class cost : List ℕ} {f : Fixed} {goal : PassedC} {ls : List ℕ} {t
   unfolding firstC
   first-end h e = let z : k ≡ 0 = omega arith in ap (λ (x : WalkC). passedC x numbers sl la) e ∙ (rw z at (v .same))
 
-  module _ (h : 0 < k) {i′ : ℕ} {x : Columns} (e : walk i′ x ≡ seekC class cost f sl (f .places - i) i m) where
-    here : sl < 64
-    here = omega (arith, v .room)
+  -- the next slot has its place in the table
+  pub here : 0 < k → sl < 64
+  here h = omega (arith, v .room)
 
-    pub sought : Ready f class cost x
-    sought = rw (ap (λ (z : WalkC). z .now) e) (seek-keeps class cost f sl here (f .places - i) i m (v .ready)
+  module _ (h : 0 < k) {i′ : ℕ} {x : Columns} (e : walk i′ x ≡ seekC class cost f sl (f .places - i) i m) where
+    sought : Ready f class cost x
+    sought = rw (ap (λ (z : WalkC). z .now) e) (seek-keeps class cost f sl (here h) (f .places - i) i m (v .ready)
         (λ y l. omega (arith, v .ready .good .store .places-fit)))
 
     abbrev ns′ : List ℕ
@@ -88,6 +89,6 @@ module _ {class cost : List ℕ} {f : Fixed} {goal : PassedC} {ls : List ℕ} {t
               room = omega (arith, v .room);
               high = omega (arith, v .high);
               slots = λ q l. byBool (eqb q tail)
-                  (λ u. let g = eqb-true q tail u in rw (g, getD-set-same ls tail sl 0 b) here)
+                  (λ u. let g = eqb-true q tail u in rw (g, getD-set-same ls tail sl 0 b) (here h))
                   (λ u. let g = eqb-false q tail u in rw (getD-set-other ls tail q sl 0 g) (v .slots q (omega arith)));
             }

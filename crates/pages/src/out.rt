@@ -67,11 +67,25 @@ pub fn number(page: &mut [u8], pen: Pen, n: u64) -> Pen {
     text(page, pen, &digits[..k])
 }
 
-// Puts a flag on the page: 0 or 1.
-pub fn flag(page: &mut [u8], pen: Pen, f: bool) -> Pen {
-    if f {
-        text(page, pen, b"1")
-    } else {
-        text(page, pen, b"0")
+// Puts a byte on the page; for a digit that names one of the numbers by its place, that number.
+fn part(page: &mut [u8], pen: Pen, b: u8, numbers: &[u64]) -> Pen {
+    if b < b'0' {
+        return byte(page, pen, b);
     }
+    let place = (b - b'0') as usize;
+    if numbers.len() <= place {
+        return byte(page, pen, b);
+    }
+    number(page, pen, numbers[place])
+}
+
+// Puts a form on the page: bytes in which a digit stands for a number, 0 for the first of them. There are ten at the most.
+pub fn form(page: &mut [u8], pen: Pen, bytes: &[u8], numbers: &[u64]) -> Pen {
+    let mut now = pen;
+    let mut i: usize = 0;
+    while i < bytes.len() {
+        now = part(page, now, bytes[i], numbers);
+        i += 1;
+    }
+    now
 }

@@ -15,10 +15,9 @@ pub fn named(page: &mut [u8], pen: Pen, word: &[u8], n: u64) -> Pen {
     out::number(page, said, n)
 }
 
-// A word and a flag.
-pub fn flagged(page: &mut [u8], pen: Pen, word: &[u8], f: bool) -> Pen {
-    let said = out::text(page, pen, word);
-    out::flag(page, said, f)
+// A flag as a number.
+pub fn bit(f: bool) -> u64 {
+    if f { 1 } else { 0 }
 }
 
 // The line as it stands.
@@ -30,17 +29,14 @@ pub fn echo(page: &mut [u8], pen: Pen, line: &[u8]) -> Pen {
 
 // The line that is no command.
 pub fn bad_line(page: &mut [u8], pen: Pen, number: u64) -> Pen {
-    let said = named(page, pen, b"bad line ", number);
-    out::text(page, said, b"\n")
+    let numbers = [number];
+    out::form(page, pen, b"bad line 0\n", &numbers)
 }
 
 // What a fill answers.
 fn filled(page: &mut [u8], pen: Pen, code: u8, collected: usize, ops: u64, dropped: usize) -> Pen {
-    let mut p = named(page, pen, b"code ", wide(code));
-    p = named(page, p, b" collected ", collected as u64);
-    p = named(page, p, b" ops ", ops);
-    p = named(page, p, b" dropped ", dropped as u64);
-    out::text(page, p, b"\n")
+    let numbers = [wide(code), collected as u64, ops, dropped as u64];
+    out::form(page, pen, b"code 0 collected 1 ops 2 dropped 3\n", &numbers)
 }
 
 // The first n bytes of a text, if it has as many.
@@ -51,13 +47,34 @@ fn start_of(page: &mut [u8], pen: Pen, text: &[u8], n: usize) -> Pen {
     out::text(page, pen, &text[..n])
 }
 
+// A code.
+fn coded(page: &mut [u8], pen: Pen, code: u8) -> Pen {
+    let numbers = [wide(code)];
+    out::form(page, pen, b"code 0\n", &numbers)
+}
+
+// Whether a group is filled.
+fn is_filled(page: &mut [u8], pen: Pen, yes: bool) -> Pen {
+    let numbers = [bit(yes)];
+    out::form(page, pen, b"filled 0\n", &numbers)
+}
+
+// Whether the buffer is full by count and can be filled by slots.
+fn full(page: &mut [u8], pen: Pen, count: bool, slots: bool) -> Pen {
+    let numbers = [bit(count), bit(slots)];
+    out::form(page, pen, b"full 0 canfill 1\n", &numbers)
+}
+
+// A text of n bytes.
+fn texted(page: &mut [u8], pen: Pen, text: &[u8], n: usize) -> Pen {
+    let said = start_of(page, pen, text, n);
+    out::text(page, said, b"\n")
+}
+
 // The answer. What it says of a text stands at the start of the one that is lent.
 pub fn reply(page: &mut [u8], pen: Pen, r: Reply, text: &[u8]) -> Pen {
     match r {
-        Reply::Code(code) => {
-            let shown = named(page, pen, b"code ", wide(code));
-            out::text(page, shown, b"\n")
-        }
+        Reply::Code(code) => coded(page, pen, code),
         Reply::Fill(code, collected, ops, dropped) => filled(
             page,
             pen,
@@ -66,37 +83,20 @@ pub fn reply(page: &mut [u8], pen: Pen, r: Reply, text: &[u8]) -> Pen {
             ops,
             dropped,
         ),
-        Reply::IsFilled(said) => {
-            let shown = flagged(page, pen, b"filled ", said);
-            out::text(page, shown, b"\n")
-        }
-        Reply::Full(count, slots) => {
-            let full = flagged(page, pen, b"full ", count);
-            let shown = flagged(page, full, b" canfill ", slots);
-            out::text(page, shown, b"\n")
-        }
-        Reply::Text(n) => {
-            let shown = start_of(page, pen, text, n);
-            out::text(page, shown, b"\n")
-        }
+        Reply::IsFilled(yes) => is_filled(page, pen, yes),
+        Reply::Full(count, slots) => full(page, pen, count, slots),
+        Reply::Text(n) => texted(page, pen, text, n),
     }
 }
 
-// A message: its kind, its time and its hash.
-fn message(page: &mut [u8], pen: Pen, m: Message) -> Pen {
-    let hash = m.hash;
-    let kind = out::number(page, pen, wide(m.kind));
-    let time = named(page, kind, b":", m.time);
-    named(page, time, b":", words::name::number_in(hash))
-}
-
-// The i-th message of a row: one space stands before each but the first.
+// The i-th message of a row, by its kind, its time and its hash: one space stands before each but the first.
 pub fn spaced(page: &mut [u8], pen: Pen, i: usize, m: Message) -> Pen {
+    let hash = m.hash;
+    let numbers = [wide(m.kind), m.time, words::name::number_in(hash)];
     if i == 0 {
-        return message(page, pen, m);
+        return out::form(page, pen, b"0:1:2", &numbers);
     }
-    let p = out::text(page, pen, b" ");
-    message(page, p, m)
+    out::form(page, pen, b" 0:1:2", &numbers)
 }
 
 // The i-th number of a row, likewise.

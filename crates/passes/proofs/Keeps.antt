@@ -14,9 +14,9 @@ use Rattle.moves.specs.Good.{live}
 use Rattle.columns.specs.Lists.{mapI, countI}
 use Rattle.columns.proofs.Scans.{length-mapI}
 use Rattle.numbers.proofs.Bytes.{byBool}
-use Rattle.meaning.specs.Meaning.{Columns, columnsOf, withOwner}
+use Rattle.meaning.specs.Meaning.{Columns, columns, columnsOf, withOwner}
 use Rattle.meaning.specs.Walks.{Ready, movesC, heldC, fullC, WalkC, meetC, seekC, visitC}
-use Rattle.meaning.specs.Passes.{positionFrom, lapsedFrom, sweepCell, sweepOwners, leftC, PassedC, passedC, ranC, serveC, firstC, secondC, sweptC, restC, endC, runC}
+use Rattle.meaning.specs.Passes.{positionFrom, lapsedFrom, sweepCell, sweepOwners, leftC, PassedC, passedC, RanC, ranC, serveC, firstC, secondC, sweptC, restC, endC, runC}
 use Rattle.meaning.proofs.Kept.{meet-keeps, visit-keeps, seek-keeps}
 
 -- ---- what the first pass keeps
@@ -75,6 +75,17 @@ second-keeps class cost f numbers e l (x ∷ xs) i m g =
     (λ z. rw z (second-keeps class cost f numbers e l xs (visitC class cost f j i m .at) (visitC class cost f j i m .now)
     (visit-keeps class cost f j (omega (arith, ltb-true j e z)) i m g)))
     (λ z. rw z (second-keeps class cost f numbers e l xs i m g))
+
+-- ---- the counts of the slots, as columns and as a table's columns
+module _ {o w h p is is′ es es′ k j : List ℕ} {t : Tally} (a : is ≡ is′) (b : es ≡ es′) where
+  pub same-counts : columns o w h p is es k j t ≡ columns o w h p is′ es′ k j t
+  same-counts i = columns o w h p (a i) (b i) k j t
+
+  pub ready-counts : {f : Fixed} {class cost : List ℕ} → Ready f class cost (columns o w h p is′ es′ k j t) → Ready f class cost (columns o w h p is es k j t)
+  ready-counts v = rw same-counts v
+
+pub same-ran : {x y : Columns} → x ≡ y → {numbers : List ℕ} {sl la n : ℕ} {r : RanC} → ranC y numbers sl la n ≡ r → ranC x numbers sl la n ≡ r
+same-ran e {numbers} {sl} {la} {n} h = ap (λ (x : Columns). ranC x numbers sl la n) e ∙ h
 
 -- ---- the run
 module _ (class cost : List ℕ) (f : Fixed) (r : ℕ) (numbers : List ℕ) (sl la : ℕ) (m : Columns) (g : Ready f class cost m) (room : sl + r ≤ 64) {a : PassedC}

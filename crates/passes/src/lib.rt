@@ -1,6 +1,7 @@
 // The passes of a fill on lent columns of numbers: `run` is the first pass (crate `openings`), the second (crate `second_pass`) and the end (crate
 // `ending`), all of it between the entry of a fill and the update of the index. `number` holds the slots' numbers by position; `listed` the
-// numbers of the slots that the index lists below the height, in its order.
+// numbers of the slots that the index lists below the height, in its order. Between the columns `ints` and `exts`, read at the start and
+// written at the end, the slots are a table of records (crate `slot_rows`).
 ghost use mathlib.Core.Path.{_≡_};
 ghost use Prim.Native.Nat.{_+_, _≤_};
 ghost use lib.ListN.{length, take};
@@ -45,24 +46,25 @@ pub fn run(
     requires { ⌜ (count ≤ 1024) × (length (now listed) ≡ 1024) ⌝ }
     ensures { λ z. ⌜ ranC (columns (now (owner .exit)) (now (taken .exit)) (now (home .exit)) (now (member .exit)) (now (ints .exit)) (now (exts .exit)) (now (mark .exit)) (now (joined .exit)) (z .tally)) (now (number .exit)) (z .slots) (z .last .0) (z .dropped) ≡ runC (now (plan .entry)) (now (cost .entry)) fixed opens (take count (now (listed .entry))) (now (number .entry)) slots (last .0) (columns (now (owner .entry)) (now (taken .entry)) (now (home .entry)) (now (member .entry)) (now (ints .entry)) (now (exts .entry)) (now (mark .entry)) (now (joined .entry)) tally) ⌝ }
 {
+    let stood = slot_rows::gather(ints, exts);
     let a = openings::first(
         owner,
         plan,
         taken,
         home,
         member,
-        ints,
-        exts,
         mark,
         cost,
         joined,
         number,
+        stood,
         fixed,
         opens,
         slots,
         last,
         tally,
     );
+    let table = a.table;
     let opened = a.tally;
     let w = second_pass::second(
         owner,
@@ -70,20 +72,21 @@ pub fn run(
         taken,
         home,
         member,
-        ints,
-        exts,
         mark,
         cost,
         joined,
         number,
         listed,
+        table,
         fixed,
         count,
         slots,
         a.at,
         opened,
     );
+    let filled = w.table;
     let visited = w.tally;
+    slot_rows::spread(filled, ints, exts);
     ending::sweep(owner, plan, fixed.rows, w.at, fixed.places);
     let e = ending::finish(owner, fixed, visited);
     let counts = e.tally;

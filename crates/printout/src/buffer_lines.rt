@@ -9,19 +9,19 @@ use pages::show;
 
 // The room of the buffer and what it holds.
 fn counts(page: &mut [u8], pen: Pen, c: Counts) -> Pen {
-    let mut p = show::named(page, pen, b"buffer M=", c.capacity);
-    p = show::named(page, p, b" A=", c.places);
-    p = show::named(page, p, b" int=", c.ints);
-    p = show::named(page, p, b" ext=", c.exts);
-    show::named(page, p, b" accounts=", c.accounts)
+    let numbers = [c.capacity, c.places, c.ints, c.exts, c.accounts];
+    out::form(
+        page,
+        pen,
+        b"buffer M=0 A=1 int=2 ext=3 accounts=4",
+        &numbers,
+    )
 }
 
 // The minimum, whether it is there, and whether a transaction is open.
 fn marks(page: &mut [u8], pen: Pen, least: u64, marked: bool, open: bool) -> Pen {
-    let mut p = show::named(page, pen, b" min=", least);
-    p = show::flagged(page, p, b" marked=", marked);
-    p = show::flagged(page, p, b" tx=", open);
-    out::text(page, p, b"\n")
+    let numbers = [least, show::bit(marked), show::bit(open)];
+    out::form(page, pen, b" min=0 marked=1 tx=2\n", &numbers)
 }
 
 // The line of the buffer.
@@ -58,9 +58,8 @@ fn queue(page: &mut [u8], pen: Pen, b: Buffer, place: u16) -> Pen
 fn queue_line(page: &mut [u8], pen: Pen, b: Buffer, place: u16, account: [u8; 32]) -> Pen
     requires { ⌜ GoodBuffer b ⌝ }
 {
-    let n = words::name::number_in(account);
-    let mut p = show::named(page, pen, b"  queue ", n);
-    p = out::text(page, p, b" = ");
+    let numbers = [words::name::number_in(account)];
+    let mut p = out::form(page, pen, b"  queue 0 = ", &numbers);
     p = queue(page, p, b, place);
     out::text(page, p, b"\n")
 }

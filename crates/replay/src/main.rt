@@ -1,7 +1,12 @@
 // Reads scenarios on standard input and prints what the buffer and the groups answer and hold, in the language of docs/SCENARIOS.md.
+ghost use Prim.Native.Nat.{_≤_};
 ghost use Rattle.desk.specs.Desks.{KeyRoom};
+ghost use Rattle.replay.specs.Runs.{Ready};
+use desk::shelf::Shelf;
+use desk::tray::Tray;
+use intake::orders::Course;
 use intake::orders::Task;
-use pages::out::Pen;
+use lintelsong::Buffer;
 use scenario::commands::Command;
 use scenario::replies::Reply;
 
@@ -14,14 +19,14 @@ fn lines(
     page: &mut [u8],
     lts: &mut [u64],
     hashes: &mut [u8],
-) -> Pen
-    requires { ⌜ KeyRoom (now lts) (now hashes) ⌝ }
+    mut b: Buffer,
+    mut t: Tray,
+    mut s: Shelf,
+    mut c: Course,
+) -> Course
+    requires { ⌜ Ready b s t (now lts) (now hashes) × (c .reader .held ≤ 0) ⌝ }
 {
-    let mut b = desk::buffer::fresh();
-    let mut t = desk::tray::fresh();
-    let mut s = desk::shelf::fresh();
-    let mut c = intake::orders::fresh();
-    while c.on && c.number < u64::MAX {
+    while intake::orders::goes_on(c) {
         let next = intake::orders::take(c, s.made, chunk, line, numbers, page);
         c = next.course;
         let task = next.task;
@@ -53,8 +58,7 @@ fn lines(
             c = intake::orders::with_pen(c, pen);
         }
     }
-    let pen = c.pen;
-    pen
+    c
 }
 
 // The whole run, and what waits on the page at its end.
@@ -68,8 +72,19 @@ fn run(
 )
     requires { ⌜ KeyRoom (now lts) (now hashes) ⌝ }
 {
-    let pen = lines(chunk, line, numbers, page, lts, hashes);
-    pages::out::flush(page, pen);
+    let end = lines(
+        chunk,
+        line,
+        numbers,
+        page,
+        lts,
+        hashes,
+        desk::buffer::fresh(),
+        desk::tray::fresh(),
+        desk::shelf::fresh(),
+        intake::orders::fresh(),
+    );
+    pages::out::flush(page, end.pen);
 }
 
 fn main() {

@@ -68,11 +68,14 @@ module _ {class cost : List ℕ} {f : Fixed} {goal : WalkC} {ls : List ℕ} {h t
     abbrev j : ℕ
     j = getD ls h 0
 
-    pub small : j < 64
+    small : j < 64
     small = v .slots h in-line
 
+    pub here : {p : ℕ} → p ≡ j → p < 64
+    here pe = rw pe small
+
     module _ {p : ℕ} (pe : p ≡ j) {x : Columns} (e : x ≡ meetC class cost f p i m) where
-      pub next-ready : Ready f class cost x
+      next-ready : Ready f class cost x
       next-ready = rw (e, pe) (meet-keeps (v .ready) j i (omega (arith, in-places, v .ready .good .store .places-fit)) small)
 
       next : serveC class cost f (cond (movesC i m) (cond (fullC (f .height) (heldC p x)) (lineIn ls (h + 1) t) (lineIn ls (h + 1) t ++ (p ∷ [])))
@@ -117,6 +120,6 @@ module _ {class cost : List ℕ} {f : Fixed} {goal : WalkC} {ls : List ℕ} {h t
               fits = omega (arith, v .fits);
               front = omega (arith, in-line);
               slots = λ k q. byBool (eqb k t)
-                  (λ u. let g = eqb-true k t u in rw (g, getD-set-same ls t p 0 b) (rw pe small))
+                  (λ u. let g = eqb-true k t u in rw (g, getD-set-same ls t p 0 b) (here pe))
                   (λ u. let g = eqb-false k t u in rw (getD-set-other ls t k p 0 g) (v .slots k (omega arith)));
             }

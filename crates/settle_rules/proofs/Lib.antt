@@ -16,7 +16,6 @@ pub mod WholeGroup
 pub mod Homes
 pub mod GoodGroup
 pub mod Traces
-pub mod Through
 pub mod RunTraced
 pub mod RunBlank
 pub mod FactsAfter

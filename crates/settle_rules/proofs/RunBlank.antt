@@ -22,7 +22,7 @@ use Rattle.meaning.specs.Passes.{PassedC, RanC, firstC, restC, endC, runC}
 use Rattle.meaning.proofs.Kept.{check-keeps, pass-keeps, move-keeps}
 use Rattle.meaning.proofs.First.{first-numbers}
 use Rattle.settle_rules.specs.Facts.{BlankFrom, OpensAtMost}
-use Rattle.settle_rules.proofs.Through.{Steps, each-snoc, each-cond, seek-through, serve-through, second-through}
+use Rattle.meaning.proofs.Through.{Steps, each-snoc, each-cond, seek-through, serve-through, second-through}
 
 -- ---- a move stores where its slot stands
 

@@ -22,7 +22,7 @@ use Rattle.meaning.specs.Passes.{sweepCell, sweepOwners, runC}
 use Rattle.meaning.proofs.Kept.{check-keeps, pass-keeps, move-keeps}
 use Rattle.settle_rules.specs.Facts.{Traced, TracedStore}
 use Rattle.settle_rules.proofs.Traces.{cell-kept, pass-traced, move-traced, move-joined}
-use Rattle.settle_rules.proofs.Through.{Steps, run-through}
+use Rattle.meaning.proofs.Through.{Steps, run-through}
 
 -- the tally may change but for the rows taken and the accounts
 pub tally-traced : {f : Fixed} {s₀ s : Store} (t : Tally) → t .taken ≡ s .tally .taken → t .accounts ≡ s .tally .accounts → TracedStore f s₀ s → TracedStore f s₀ (withTally s t)

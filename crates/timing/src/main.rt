@@ -93,23 +93,32 @@ fn put(n: u64, behind: &[u8]) {
     io::write_all(libc::STDOUT_FILENO, behind);
 }
 
+// Prints the sums over all fills.
+fn show_sums(s: Sums) {
+    put(s.collected, b" ");
+    put(s.operations, b" ");
+    put(s.dropped, b" ");
+}
+
+// Prints what the last fill left in the buffer and in the group.
+fn show_left(left: u64, slots: u64, accounts: u64, messages: u64) {
+    put(left, b" ");
+    put(slots, b" ");
+    put(accounts, b" ");
+    put(messages, b"\n");
+}
+
 // Prints the line.
 fn show(r: Told)
     requires { ⌜ GoodAnswer (r .last) ⌝ }
 {
-    let sums = r.sums;
     let last = r.last;
     let buffer = last.buffer;
     let group = last.group;
     let left = buffer.counts();
     let got = group.counts();
-    put(sums.collected, b" ");
-    put(sums.operations, b" ");
-    put(sums.dropped, b" ");
-    put(left.messages, b" ");
-    put(got.slots, b" ");
-    put(got.accounts, b" ");
-    put(got.messages, b"\n");
+    show_sums(r.sums);
+    show_left(left.messages, got.slots, got.accounts, got.messages);
 }
 
 // Room for the key list, one row a message.

@@ -1,5 +1,5 @@
--- The branches of a move, each a lemma over the shut rules on columns; and that a slot grows by no more than the room that it had.
--- Assumes nothing.
+-- The branches of a move, each a lemma over the shut rules on columns; that a slot grows by no more than the room that it had; and how its
+-- columns grow. Assumes nothing.
 use mathlib.Core.Path.{_≡_, sym, ap, _∙_}
 use mathlib.Core.List.{List}
 use Prim.Native.Nat.{ℕ, _+_, _<_, _≤_, _-_}
@@ -8,11 +8,16 @@ use lib.ListN.{getD, set}
 use borrow.Author.Tests.{ne-eqb, le-leb, lt-leb}
 use Rattle.moves.specs.declared.Tally.{Tally}
 use Rattle.moves.specs.declared.Fixed.{Fixed}
-use Rattle.moves.specs.Moves.{tally, sum, Homes, homes, enterHomes, Store, store, moveStore, tookStore, takeC, Taking, TookIs, wantedOf, wantedC, queuedC, heldAt, withHomes}
+use Rattle.moves.specs.Moves.{alone, tally, sum, Homes, homes, enterHomes, Store, store, moveStore, tookStore, takeC, Taking, TookIs, wantedOf, wantedC, queuedC, heldAt, withHomes}
+use Rattle.moves.proofs.Alone.{alone-at, alone-set}
 
 pub grow-fits : (q height h k got : ℕ) → k ≡ wantedC q height h → height ≤ 16 → h ≤ 16 → got ≤ k → h + got ≤ 16
 unfolding wantedC
 grow-fits q height h k got e a b l = omega arith
+
+-- a count that grows, as the column of one slot
+pub alone-grown : (j x d y : ℕ) → j < 64 → y ≡ x + d → alone j y ≡ set (alone j x) j (getD (alone j x) j 0 + d)
+alone-grown j x d y l e = rw (alone-at j x l, alone-set j x (x + d), e)
 
 module _ (class : List ℕ) (f : Fixed) (p j : ℕ) (s : Store) where
   pub move-none : f .places ≤ p → s ≡ moveStore class f p j s

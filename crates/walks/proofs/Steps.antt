@@ -36,7 +36,7 @@ module _ (class cost : List ℕ) (f : Fixed) (j : ℕ) where
         unfolding seekC
         seek-next = rw e (rw (turns (f .places) i h) at (v .same))
 
-        pub next-ready : Ready f class cost t
+        next-ready : Ready f class cost t
         next-ready = rw e (meet-keeps (v .ready) j i (omega (arith, v .ready .good .store .places-fit)) jl)
 
         pub seek-on : {x : ℕ} → x ≡ heldC j t → x ≡ 0 → Going f class cost Seek goal (i + 1) t
@@ -56,13 +56,13 @@ module _ (class cost : List ℕ) (f : Fixed) (j : ℕ) where
         unfolding reachC
         reach-next = rw e (rw (turns (f .places) i h) at (v .same))
 
-        pub reach-ready : Ready f class cost t
+        reach-ready : Ready f class cost t
         reach-ready = rw e (meet-keeps (v .ready) j i (omega (arith, v .ready .good .store .places-fit)) jl)
 
-        pub reach-on : {x y : Bool} → x ≡ movesAt (m .store .home) (m .mark) i → y ≡ cond x (fullC (f .height) (heldC j t)) false → y ≡ false
-            → Going f class cost Reach goal (i + 1) t
-        reach-on a b c = record { ready = reach-ready; same = rw (sym (rw a at b) ∙ c) at reach-next }
+        pub reach-on : {x y : Bool} {n : ℕ} → x ≡ movesAt (m .store .home) (m .mark) i → n ≡ heldC j t → y ≡ cond x (fullC (f .height) n) false
+            → y ≡ false → Going f class cost Reach goal (i + 1) t
+        reach-on a n b c = record { ready = reach-ready; same = rw (sym (rw (a, n) at b) ∙ c) at reach-next }
 
-        pub reach-stop : {x y : Bool} → x ≡ movesAt (m .store .home) (m .mark) i → y ≡ cond x (fullC (f .height) (heldC j t)) false → y ≡ true
-            → walk (i + 1) t ≡ goal
-        reach-stop a b c = rw (sym (rw a at b) ∙ c) at reach-next
+        pub reach-stop : {x y : Bool} {n : ℕ} → x ≡ movesAt (m .store .home) (m .mark) i → n ≡ heldC j t → y ≡ cond x (fullC (f .height) n) false
+            → y ≡ true → walk (i + 1) t ≡ goal
+        reach-stop a n b c = rw (sym (rw (a, n) at b) ∙ c) at reach-next

@@ -16,7 +16,7 @@ use prog.Wp.{Heap, Calls, Loops, WpFn, Tables}
 use ghost.Atoms.{Atoms}
 use contract.Monad.{Fun, fact}
 use contract.Running.{givenOf, tables, tablesOf}
-use types.Kit.{Given, Item, ‵, raw, some, later, mean, _⊛_, ⋆, _$_, _∵_, !, qed, by, move, keep, drop, use1, split, join, pick, rewrite, fsplit, fsplit3, fjoin, fjoin3, feqI, suffices, frame, await, updating, now as at-once, show, done}
+use types.Kit.{Given, Item, ‵, raw, some, later, mean, _⊛_, ⋆, _$_, _∵_, !, qed, by, move, keep, drop, use1, use2, split, join, pick, rewrite, fsplit, fsplit3, fjoin, fjoin3, feqI, suffices, frame, await, updating, now as at-once, show, done}
 use types.Run.{look, init, forget, stop, hop, fld, from, load, addr, and-then, no-more, assigns, land, returns, enter, alloc1, alloc0, params1, pass1, pass0, free1, free0}
 use types.Mut.{open-ref, close-ref}
 use types.SemTy.{Body}
@@ -109,16 +109,16 @@ module _ {M : Type 1} (𝓤 : URA M) (H : Heap 𝓤) (A : Atoms 𝓤) (W : Given
   lend-b : ent 𝓤 (mean 𝓤 H A (‵ (fobs γ-b (Buffer.the-row .coded .code b)) ⊛ ‵ (fbor κ-b (Body (mem Buffer.the-row) b-b o-b γ-b)) ⊛ ‵ (flft κ-b q-b))) (mean 𝓤 H A (later (some (λ (n-b : Names-b). Refs-b n-b ⊛ (Tokens-b n-b ⊛ Kept-b n-b)))))
   lend-b =
       qed W ((‵ (fobs γ-b (Buffer.the-row .coded .code b)) ⊛ ‵ (fbor κ-b (Body (mem Buffer.the-row) b-b o-b γ-b)) ⊛ ‵ (flft κ-b q-b)) ∷ []) ∵
-      updating ! $ split ! $ move ! (1 ∷ []) $ split ! $ move ! (2 ∷ 0 ∷ 1 ∷ []) $ open-ref ! tt (mem Buffer.the-row) {x = b} {b = b-b} {o = o-b} $ use1 W (‵ (partAt (Array u16 2048) fullShare (b .owner) b-b (o-b + 0)) ⊛ ‵ (partAt (Array u8 2048) fullShare (b .kind) b-b (o-b + 4096)) ⊛ ‵ (partAt (Array u8 2048) fullShare (b .form) b-b (o-b + 6144)) ⊛ ‵ (partAt (Array u64 2048) fullShare (b .time) b-b (o-b + 8192)) ⊛ ‵ (partAt (Array u8 65536) fullShare (b .address) b-b (o-b + 24576)) ⊛ ‵ (partAt (Array u8 65536) fullShare (b .hash) b-b (o-b + 90112)) ⊛ ‵ (partAt (Array u8 16384) fullShare (b .accounts) b-b (o-b + 155648)) ⊛ ‵ (partAt (Array u64 528) fullShare (b .numbers) b-b (o-b + 172032)) ⊛ raw (BufferBack 𝓤 H A b-b o-b)) (buffer-apart 𝓤 H A W b b-b o-b) $ split ! $ move ! (1 ∷ []) $ split ! $ move ! (1 ∷ []) $ split ! $ move ! (1 ∷ []) $ split ! $ move ! (1 ∷ []) $ split ! $ move ! (1 ∷ []) $ split ! $ move ! (1 ∷ []) $ split ! $ move ! (1 ∷ []) $ split ! $
+      updating ! $ split ! $ move ! (1 ∷ []) $ split ! $ move ! (2 ∷ 0 ∷ 1 ∷ []) $ open-ref ! tt (mem Buffer.the-row) {x = b} {b = b-b} {o = o-b} $ use1 W ((‵ (partAt (Array u16 2048) fullShare (b .owner) b-b (o-b + 0)) ⊛ ‵ (partAt (Array u8 2048) fullShare (b .kind) b-b (o-b + 4096)) ⊛ ‵ (partAt (Array u8 2048) fullShare (b .form) b-b (o-b + 6144)) ⊛ ‵ (partAt (Array u64 2048) fullShare (b .time) b-b (o-b + 8192)) ⊛ ‵ (partAt (Array u8 65536) fullShare (b .address) b-b (o-b + 24576)) ⊛ ‵ (partAt (Array u8 65536) fullShare (b .hash) b-b (o-b + 90112)) ⊛ ‵ (partAt (Array u8 16384) fullShare (b .accounts) b-b (o-b + 155648)) ⊛ ‵ (partAt (Array u64 528) fullShare (b .numbers) b-b (o-b + 172032)) ⊛ ‵ (ftrue)) ⊛ raw (BufferBack 𝓤 H A b-b o-b)) (buffer-apart 𝓤 H A W b b-b o-b) $ split ! $ split ! $ move ! (1 ∷ []) $ split ! $ move ! (1 ∷ []) $ split ! $ move ! (1 ∷ []) $ split ! $ move ! (1 ∷ []) $ split ! $ move ! (1 ∷ []) $ split ! $ move ! (1 ∷ []) $ split ! $ move ! (1 ∷ []) $ split ! $ move ! (1 ∷ []) $ drop ! $
       lft-new ! tt (λ ν0. move ! (1 ∷ []) $ use1 W (later (some (λ (δ0 : GName). ‵ (ShrRef (named 0) (ν0 ∷ []) (Array u64 528) .own (x0 (δ0)) (vptr b-b (o-b + 172032) ∷ [])) ⊛ ‵ (flent (ν0 ∷ []) (partAt (Array u64 528) fullShare (b .numbers) b-b (o-b + 172032)))))) (lends-shr 𝓤 H A W (Array u64 528) (named 0) (ν0 ∷ []) fullShare (b .numbers) b-b (o-b + 172032)) $ await ! tt $ pick ! (λ δ0. split ! $
-      at-once ! $ show ! (λ (n-b : Names-b). mean 𝓤 H A (Refs-b n-b ⊛ (Tokens-b n-b ⊛ Kept-b n-b))) (record { ν0 = ν0; δ0 = δ0 }) $ move ! (12 ∷ 13 ∷ []) $ join ! $ move ! (12 ∷ 0 ∷ []) $ join ! $ move ! (4 ∷ 0 ∷ []) $ join ! $ move ! (4 ∷ 0 ∷ []) $ join ! $ move ! (4 ∷ 0 ∷ []) $ join ! $ move ! (4 ∷ 0 ∷ []) $ join ! $ move ! (4 ∷ 0 ∷ []) $ join ! $ move ! (4 ∷ 0 ∷ []) $ join ! $ move ! (4 ∷ 0 ∷ []) $ join ! $ move ! (4 ∷ 0 ∷ []) $ join ! $ move ! (2 ∷ 0 ∷ []) $ join ! $ move ! (2 ∷ 0 ∷ []) $ join ! $ move ! (1 ∷ 0 ∷ []) $ join ! $ done !))
+      at-once ! $ show ! (λ (n-b : Names-b). mean 𝓤 H A (Refs-b n-b ⊛ (Tokens-b n-b ⊛ Kept-b n-b))) (record { ν0 = ν0; δ0 = δ0 }) $ move ! (12 ∷ 13 ∷ []) $ join ! $ move ! (12 ∷ 0 ∷ []) $ join ! $ move ! (11 ∷ 0 ∷ []) $ join ! $ move ! (4 ∷ 0 ∷ []) $ join ! $ move ! (4 ∷ 0 ∷ []) $ join ! $ move ! (4 ∷ 0 ∷ []) $ join ! $ move ! (4 ∷ 0 ∷ []) $ join ! $ move ! (4 ∷ 0 ∷ []) $ join ! $ move ! (4 ∷ 0 ∷ []) $ join ! $ move ! (4 ∷ 0 ∷ []) $ join ! $ move ! (2 ∷ 0 ∷ []) $ join ! $ move ! (2 ∷ 0 ∷ []) $ join ! $ move ! (1 ∷ 0 ∷ []) $ join ! $ done !))
 
   back-b : (n-b : Names-b) → ent 𝓤 (mean 𝓤 H A (Kept-b n-b ⊛ (Tokens-b n-b))) (mean 𝓤 H A (later (‵ (fobs γ-b (Buffer.the-row .coded .code (b))) ⊛ ‵ (fbor κ-b (Body (mem Buffer.the-row) b-b o-b γ-b)) ⊛ ‵ (flft κ-b q-b))))
   back-b n-b =
       qed W ((Kept-b n-b ⊛ (Tokens-b n-b)) ∷ []) ∵
       updating ! $ split ! $ split ! $ move ! (1 ∷ []) $ split ! $ move ! (1 ∷ []) $ split ! $ move ! (1 ∷ []) $ split ! $ move ! (1 ∷ []) $ split ! $ move ! (1 ∷ []) $ split ! $ move ! (1 ∷ []) $ split ! $ move ! (1 ∷ []) $ split ! $ move ! (1 ∷ []) $ split ! $ move ! (1 ∷ []) $ split ! $ move ! (1 ∷ []) $ split ! $
       move ! (12 ∷ []) $ lft-end ! tt $ move ! (0 ∷ 12 ∷ []) $ lent-back ! tt $
-      move ! (0 ∷ 4 ∷ []) $ join ! $ move ! (4 ∷ 0 ∷ []) $ join ! $ move ! (4 ∷ 0 ∷ []) $ join ! $ move ! (4 ∷ 0 ∷ []) $ join ! $ move ! (4 ∷ 0 ∷ []) $ join ! $ move ! (4 ∷ 0 ∷ []) $ join ! $ move ! (4 ∷ 0 ∷ []) $ join ! $ move ! (4 ∷ 0 ∷ []) $ join ! $ use1 W (‵ (partAt Buffer.the-row fullShare (b) b-b o-b)) (buffer-together 𝓤 H A W (b) b-b o-b) $ move ! (0 ∷ 3 ∷ 1 ∷ 2 ∷ []) $ close-ref ! tt (mem Buffer.the-row) (b) {b = b-b} {o = o-b} $ at-once ! $ move ! (1 ∷ 2 ∷ []) $ join ! $ move ! (1 ∷ 0 ∷ []) $ join ! $ done !
+      nothing ! $ move ! (1 ∷ 0 ∷ []) $ join ! $ move ! (5 ∷ 0 ∷ []) $ join ! $ move ! (5 ∷ 0 ∷ []) $ join ! $ move ! (5 ∷ 0 ∷ []) $ join ! $ move ! (5 ∷ 0 ∷ []) $ join ! $ move ! (5 ∷ 0 ∷ []) $ join ! $ move ! (5 ∷ 0 ∷ []) $ join ! $ move ! (5 ∷ 0 ∷ []) $ join ! $ move ! (0 ∷ 4 ∷ []) $ use2 W (‵ (partAt Buffer.the-row fullShare (b) b-b o-b)) (buffer-together 𝓤 H A W (b) b-b o-b) $ move ! (0 ∷ 3 ∷ 1 ∷ 2 ∷ []) $ close-ref ! tt (mem Buffer.the-row) (b) {b = b-b} {o = o-b} $ at-once ! $ move ! (1 ∷ 2 ∷ []) $ join ! $ move ! (1 ∷ 0 ∷ []) $ join ! $ done !
 
   goes-to-core : Req → (n-b : Names-b) → ent 𝓤 (mean 𝓤 H A (Refs-b n-b ⊛ Tokens-b n-b)) (Core 𝓤 H A at-mem run .pre (to-core n-b))
   goes-to-core pre n-b =

@@ -16,7 +16,7 @@ use prog.Wp.{Heap, Calls, Loops, WpFn, Tables}
 use ghost.Atoms.{Atoms}
 use contract.Monad.{Fun, fact}
 use contract.Running.{givenOf, tables, tablesOf}
-use types.Kit.{Given, Item, ‵, raw, some, later, mean, _⊛_, ⋆, _$_, _∵_, !, qed, by, move, keep, drop, use1, split, join, pick, rewrite, fsplit, fsplit3, fjoin, fjoin3, feqI, suffices, frame, await, updating, now as at-once, show, done}
+use types.Kit.{Given, Item, ‵, raw, some, later, mean, _⊛_, ⋆, _$_, _∵_, !, qed, by, move, keep, drop, use1, use2, split, join, pick, rewrite, fsplit, fsplit3, fjoin, fjoin3, feqI, suffices, frame, await, updating, now as at-once, show, done}
 use types.Run.{look, init, forget, stop, hop, fld, from, load, addr, and-then, no-more, assigns, land, returns, enter, alloc1, alloc0, params1, pass1, pass0, free1, free0}
 use types.Mut.{open-ref, close-ref}
 use types.SemTy.{Body}
@@ -147,15 +147,15 @@ module _ {M : Type 1} (𝓤 : URA M) (H : Heap 𝓤) (A : Atoms 𝓤) (W : Given
   lend-b : ent 𝓤 (mean 𝓤 H A (‵ (fobs γ-b (Buffer.the-row .coded .code b)) ⊛ ‵ (fbor κ-b (Body (mem Buffer.the-row) b-b o-b γ-b)) ⊛ ‵ (flft κ-b q-b))) (mean 𝓤 H A (later (some (λ (n-b : Names-b). Refs-b n-b ⊛ (Tokens-b n-b ⊛ Kept-b n-b)))))
   lend-b =
       qed W ((‵ (fobs γ-b (Buffer.the-row .coded .code b)) ⊛ ‵ (fbor κ-b (Body (mem Buffer.the-row) b-b o-b γ-b)) ⊛ ‵ (flft κ-b q-b)) ∷ []) ∵
-      updating ! $ split ! $ move ! (1 ∷ []) $ split ! $ move ! (2 ∷ 0 ∷ 1 ∷ []) $ open-ref ! tt (mem Buffer.the-row) {x = b} {b = b-b} {o = o-b} $ use1 W (‵ (partAt (Array u16 2048) fullShare (b .owner) b-b (o-b + 0)) ⊛ ‵ (partAt (Array u8 2048) fullShare (b .kind) b-b (o-b + 4096)) ⊛ ‵ (partAt (Array u8 2048) fullShare (b .form) b-b (o-b + 6144)) ⊛ ‵ (partAt (Array u64 2048) fullShare (b .time) b-b (o-b + 8192)) ⊛ ‵ (partAt (Array u8 65536) fullShare (b .address) b-b (o-b + 24576)) ⊛ ‵ (partAt (Array u8 65536) fullShare (b .hash) b-b (o-b + 90112)) ⊛ ‵ (partAt (Array u8 16384) fullShare (b .accounts) b-b (o-b + 155648)) ⊛ ‵ (partAt (Array u64 528) fullShare (b .numbers) b-b (o-b + 172032)) ⊛ raw (BufferBack 𝓤 H A b-b o-b)) (buffer-apart 𝓤 H A W b b-b o-b) $ split ! $ move ! (1 ∷ []) $ split ! $ move ! (1 ∷ []) $ split ! $ move ! (1 ∷ []) $ split ! $ move ! (1 ∷ []) $ split ! $ move ! (1 ∷ []) $ split ! $ move ! (1 ∷ []) $ split ! $ move ! (1 ∷ []) $ split ! $
-      lft-new ! tt (λ ν0. move ! (9 ∷ []) $ use1 W (later (some (λ (δ0 : GName). ‵ (ShrRef (named 0) (ν0 ∷ []) (Array u16 2048) .own (x0 (δ0)) (vptr b-b (o-b + 0) ∷ [])) ⊛ ‵ (flent (ν0 ∷ []) (partAt (Array u16 2048) fullShare (b .owner) b-b (o-b + 0)))))) (lends-shr 𝓤 H A W (Array u16 2048) (named 0) (ν0 ∷ []) fullShare (b .owner) b-b (o-b + 0)) $ await ! tt $ pick ! (λ δ0. split ! $
-      lft-new ! tt (λ ν1. move ! (11 ∷ []) $ use1 W (later (some (λ (δ1 : GName). ‵ (ShrRef (named 1) (ν1 ∷ []) (Array u8 2048) .own (x1 (δ1)) (vptr b-b (o-b + 4096) ∷ [])) ⊛ ‵ (flent (ν1 ∷ []) (partAt (Array u8 2048) fullShare (b .kind) b-b (o-b + 4096)))))) (lends-shr 𝓤 H A W (Array u8 2048) (named 1) (ν1 ∷ []) fullShare (b .kind) b-b (o-b + 4096)) $ await ! tt $ pick ! (λ δ1. split ! $
-      lft-new ! tt (λ ν2. move ! (13 ∷ []) $ use1 W (later (some (λ (δ2 : GName). ‵ (ShrRef (named 2) (ν2 ∷ []) (Array u8 2048) .own (x2 (δ2)) (vptr b-b (o-b + 6144) ∷ [])) ⊛ ‵ (flent (ν2 ∷ []) (partAt (Array u8 2048) fullShare (b .form) b-b (o-b + 6144)))))) (lends-shr 𝓤 H A W (Array u8 2048) (named 2) (ν2 ∷ []) fullShare (b .form) b-b (o-b + 6144)) $ await ! tt $ pick ! (λ δ2. split ! $
-      lft-new ! tt (λ ν3. move ! (15 ∷ []) $ use1 W (later (some (λ (δ3 : GName). ‵ (ShrRef (named 3) (ν3 ∷ []) (Array u64 2048) .own (x3 (δ3)) (vptr b-b (o-b + 8192) ∷ [])) ⊛ ‵ (flent (ν3 ∷ []) (partAt (Array u64 2048) fullShare (b .time) b-b (o-b + 8192)))))) (lends-shr 𝓤 H A W (Array u64 2048) (named 3) (ν3 ∷ []) fullShare (b .time) b-b (o-b + 8192)) $ await ! tt $ pick ! (λ δ3. split ! $
-      lft-new ! tt (λ ν4. move ! (17 ∷ []) $ use1 W (later (some (λ (δ4 : GName). ‵ (ShrRef (named 4) (ν4 ∷ []) (Array u8 65536) .own (x4 (δ4)) (vptr b-b (o-b + 24576) ∷ [])) ⊛ ‵ (flent (ν4 ∷ []) (partAt (Array u8 65536) fullShare (b .address) b-b (o-b + 24576)))))) (lends-shr 𝓤 H A W (Array u8 65536) (named 4) (ν4 ∷ []) fullShare (b .address) b-b (o-b + 24576)) $ await ! tt $ pick ! (λ δ4. split ! $
-      lft-new ! tt (λ ν5. move ! (19 ∷ []) $ use1 W (later (some (λ (δ5 : GName). ‵ (ShrRef (named 5) (ν5 ∷ []) (Array u8 65536) .own (x5 (δ5)) (vptr b-b (o-b + 90112) ∷ [])) ⊛ ‵ (flent (ν5 ∷ []) (partAt (Array u8 65536) fullShare (b .hash) b-b (o-b + 90112)))))) (lends-shr 𝓤 H A W (Array u8 65536) (named 5) (ν5 ∷ []) fullShare (b .hash) b-b (o-b + 90112)) $ await ! tt $ pick ! (λ δ5. split ! $
+      updating ! $ split ! $ move ! (1 ∷ []) $ split ! $ move ! (2 ∷ 0 ∷ 1 ∷ []) $ open-ref ! tt (mem Buffer.the-row) {x = b} {b = b-b} {o = o-b} $ use1 W ((‵ (partAt (Array u16 2048) fullShare (b .owner) b-b (o-b + 0)) ⊛ ‵ (partAt (Array u8 2048) fullShare (b .kind) b-b (o-b + 4096)) ⊛ ‵ (partAt (Array u8 2048) fullShare (b .form) b-b (o-b + 6144)) ⊛ ‵ (partAt (Array u64 2048) fullShare (b .time) b-b (o-b + 8192)) ⊛ ‵ (partAt (Array u8 65536) fullShare (b .address) b-b (o-b + 24576)) ⊛ ‵ (partAt (Array u8 65536) fullShare (b .hash) b-b (o-b + 90112)) ⊛ ‵ (partAt (Array u8 16384) fullShare (b .accounts) b-b (o-b + 155648)) ⊛ ‵ (partAt (Array u64 528) fullShare (b .numbers) b-b (o-b + 172032)) ⊛ ‵ (ftrue)) ⊛ raw (BufferBack 𝓤 H A b-b o-b)) (buffer-apart 𝓤 H A W b b-b o-b) $ split ! $ split ! $ move ! (1 ∷ []) $ split ! $ move ! (1 ∷ []) $ split ! $ move ! (1 ∷ []) $ split ! $ move ! (1 ∷ []) $ split ! $ move ! (1 ∷ []) $ split ! $ move ! (1 ∷ []) $ split ! $ move ! (1 ∷ []) $ split ! $ move ! (1 ∷ []) $ drop ! $
+      lft-new ! tt (λ ν0. move ! (8 ∷ []) $ use1 W (later (some (λ (δ0 : GName). ‵ (ShrRef (named 0) (ν0 ∷ []) (Array u16 2048) .own (x0 (δ0)) (vptr b-b (o-b + 0) ∷ [])) ⊛ ‵ (flent (ν0 ∷ []) (partAt (Array u16 2048) fullShare (b .owner) b-b (o-b + 0)))))) (lends-shr 𝓤 H A W (Array u16 2048) (named 0) (ν0 ∷ []) fullShare (b .owner) b-b (o-b + 0)) $ await ! tt $ pick ! (λ δ0. split ! $
+      lft-new ! tt (λ ν1. move ! (10 ∷ []) $ use1 W (later (some (λ (δ1 : GName). ‵ (ShrRef (named 1) (ν1 ∷ []) (Array u8 2048) .own (x1 (δ1)) (vptr b-b (o-b + 4096) ∷ [])) ⊛ ‵ (flent (ν1 ∷ []) (partAt (Array u8 2048) fullShare (b .kind) b-b (o-b + 4096)))))) (lends-shr 𝓤 H A W (Array u8 2048) (named 1) (ν1 ∷ []) fullShare (b .kind) b-b (o-b + 4096)) $ await ! tt $ pick ! (λ δ1. split ! $
+      lft-new ! tt (λ ν2. move ! (12 ∷ []) $ use1 W (later (some (λ (δ2 : GName). ‵ (ShrRef (named 2) (ν2 ∷ []) (Array u8 2048) .own (x2 (δ2)) (vptr b-b (o-b + 6144) ∷ [])) ⊛ ‵ (flent (ν2 ∷ []) (partAt (Array u8 2048) fullShare (b .form) b-b (o-b + 6144)))))) (lends-shr 𝓤 H A W (Array u8 2048) (named 2) (ν2 ∷ []) fullShare (b .form) b-b (o-b + 6144)) $ await ! tt $ pick ! (λ δ2. split ! $
+      lft-new ! tt (λ ν3. move ! (14 ∷ []) $ use1 W (later (some (λ (δ3 : GName). ‵ (ShrRef (named 3) (ν3 ∷ []) (Array u64 2048) .own (x3 (δ3)) (vptr b-b (o-b + 8192) ∷ [])) ⊛ ‵ (flent (ν3 ∷ []) (partAt (Array u64 2048) fullShare (b .time) b-b (o-b + 8192)))))) (lends-shr 𝓤 H A W (Array u64 2048) (named 3) (ν3 ∷ []) fullShare (b .time) b-b (o-b + 8192)) $ await ! tt $ pick ! (λ δ3. split ! $
+      lft-new ! tt (λ ν4. move ! (16 ∷ []) $ use1 W (later (some (λ (δ4 : GName). ‵ (ShrRef (named 4) (ν4 ∷ []) (Array u8 65536) .own (x4 (δ4)) (vptr b-b (o-b + 24576) ∷ [])) ⊛ ‵ (flent (ν4 ∷ []) (partAt (Array u8 65536) fullShare (b .address) b-b (o-b + 24576)))))) (lends-shr 𝓤 H A W (Array u8 65536) (named 4) (ν4 ∷ []) fullShare (b .address) b-b (o-b + 24576)) $ await ! tt $ pick ! (λ δ4. split ! $
+      lft-new ! tt (λ ν5. move ! (18 ∷ []) $ use1 W (later (some (λ (δ5 : GName). ‵ (ShrRef (named 5) (ν5 ∷ []) (Array u8 65536) .own (x5 (δ5)) (vptr b-b (o-b + 90112) ∷ [])) ⊛ ‵ (flent (ν5 ∷ []) (partAt (Array u8 65536) fullShare (b .hash) b-b (o-b + 90112)))))) (lends-shr 𝓤 H A W (Array u8 65536) (named 5) (ν5 ∷ []) fullShare (b .hash) b-b (o-b + 90112)) $ await ! tt $ pick ! (λ δ5. split ! $
       lft-new ! tt (λ ν6. move ! (19 ∷ []) $ use1 W (later (some (λ (δ6 : GName). ‵ (ShrRef (named 6) (ν6 ∷ []) (Array u64 528) .own (x6 (δ6)) (vptr b-b (o-b + 172032) ∷ [])) ⊛ ‵ (flent (ν6 ∷ []) (partAt (Array u64 528) fullShare (b .numbers) b-b (o-b + 172032)))))) (lends-shr 𝓤 H A W (Array u64 528) (named 6) (ν6 ∷ []) fullShare (b .numbers) b-b (o-b + 172032)) $ await ! tt $ pick ! (λ δ6. split ! $
-      at-once ! $ show ! (λ (n-b : Names-b). mean 𝓤 H A (Refs-b n-b ⊛ (Tokens-b n-b ⊛ Kept-b n-b))) (record { ν0 = ν0; ν1 = ν1; ν2 = ν2; ν3 = ν3; ν4 = ν4; ν5 = ν5; ν6 = ν6; δ0 = δ0; δ1 = δ1; δ2 = δ2; δ3 = δ3; δ4 = δ4; δ5 = δ5; δ6 = δ6 }) $ move ! (24 ∷ 25 ∷ []) $ join ! $ move ! (24 ∷ 0 ∷ []) $ join ! $ move ! (22 ∷ 0 ∷ []) $ join ! $ move ! (22 ∷ 0 ∷ []) $ join ! $ move ! (2 ∷ 0 ∷ []) $ join ! $ move ! (4 ∷ 0 ∷ []) $ join ! $ move ! (6 ∷ 0 ∷ []) $ join ! $ move ! (8 ∷ 0 ∷ []) $ join ! $ move ! (10 ∷ 0 ∷ []) $ join ! $ move ! (12 ∷ 0 ∷ []) $ join ! $ move ! (14 ∷ 0 ∷ []) $ join ! $ move ! (4 ∷ 2 ∷ []) $ join ! $ move ! (5 ∷ 0 ∷ []) $ join ! $ move ! (6 ∷ 0 ∷ []) $ join ! $ move ! (7 ∷ 0 ∷ []) $ join ! $ move ! (8 ∷ 0 ∷ []) $ join ! $ move ! (9 ∷ 0 ∷ []) $ join ! $ move ! (3 ∷ 2 ∷ []) $ join ! $ move ! (3 ∷ 0 ∷ []) $ join ! $ move ! (3 ∷ 0 ∷ []) $ join ! $ move ! (3 ∷ 0 ∷ []) $ join ! $ move ! (3 ∷ 0 ∷ []) $ join ! $ move ! (3 ∷ 0 ∷ []) $ join ! $ move ! (1 ∷ 2 ∷ []) $ join ! $ move ! (1 ∷ 0 ∷ []) $ join ! $ done !))))))))))))))
+      at-once ! $ show ! (λ (n-b : Names-b). mean 𝓤 H A (Refs-b n-b ⊛ (Tokens-b n-b ⊛ Kept-b n-b))) (record { ν0 = ν0; ν1 = ν1; ν2 = ν2; ν3 = ν3; ν4 = ν4; ν5 = ν5; ν6 = ν6; δ0 = δ0; δ1 = δ1; δ2 = δ2; δ3 = δ3; δ4 = δ4; δ5 = δ5; δ6 = δ6 }) $ move ! (24 ∷ 25 ∷ []) $ join ! $ move ! (24 ∷ 0 ∷ []) $ join ! $ move ! (23 ∷ 0 ∷ []) $ join ! $ move ! (22 ∷ 0 ∷ []) $ join ! $ move ! (2 ∷ 0 ∷ []) $ join ! $ move ! (4 ∷ 0 ∷ []) $ join ! $ move ! (6 ∷ 0 ∷ []) $ join ! $ move ! (8 ∷ 0 ∷ []) $ join ! $ move ! (10 ∷ 0 ∷ []) $ join ! $ move ! (12 ∷ 0 ∷ []) $ join ! $ move ! (14 ∷ 0 ∷ []) $ join ! $ move ! (4 ∷ 2 ∷ []) $ join ! $ move ! (5 ∷ 0 ∷ []) $ join ! $ move ! (6 ∷ 0 ∷ []) $ join ! $ move ! (7 ∷ 0 ∷ []) $ join ! $ move ! (8 ∷ 0 ∷ []) $ join ! $ move ! (9 ∷ 0 ∷ []) $ join ! $ move ! (3 ∷ 2 ∷ []) $ join ! $ move ! (3 ∷ 0 ∷ []) $ join ! $ move ! (3 ∷ 0 ∷ []) $ join ! $ move ! (3 ∷ 0 ∷ []) $ join ! $ move ! (3 ∷ 0 ∷ []) $ join ! $ move ! (3 ∷ 0 ∷ []) $ join ! $ move ! (1 ∷ 2 ∷ []) $ join ! $ move ! (1 ∷ 0 ∷ []) $ join ! $ done !))))))))))))))
 
   back-b : (n-b : Names-b) → ent 𝓤 (mean 𝓤 H A (Kept-b n-b ⊛ (Tokens-b n-b))) (mean 𝓤 H A (later (‵ (fobs γ-b (Buffer.the-row .coded .code (b))) ⊛ ‵ (fbor κ-b (Body (mem Buffer.the-row) b-b o-b γ-b)) ⊛ ‵ (flft κ-b q-b))))
   back-b n-b =
@@ -168,7 +168,7 @@ module _ {M : Type 1} (𝓤 : URA M) (H : Heap 𝓤) (A : Atoms 𝓤) (W : Given
       move ! (6 ∷ []) $ lft-end ! tt $ move ! (0 ∷ 14 ∷ []) $ lent-back ! tt $
       move ! (5 ∷ []) $ lft-end ! tt $ move ! (0 ∷ 13 ∷ []) $ lent-back ! tt $
       move ! (6 ∷ []) $ lft-end ! tt $ move ! (0 ∷ 12 ∷ []) $ lent-back ! tt $
-      move ! (0 ∷ 10 ∷ []) $ join ! $ move ! (10 ∷ 0 ∷ []) $ join ! $ move ! (1 ∷ 0 ∷ []) $ join ! $ move ! (1 ∷ 0 ∷ []) $ join ! $ move ! (1 ∷ 0 ∷ []) $ join ! $ move ! (1 ∷ 0 ∷ []) $ join ! $ move ! (1 ∷ 0 ∷ []) $ join ! $ move ! (1 ∷ 0 ∷ []) $ join ! $ use1 W (‵ (partAt Buffer.the-row fullShare (b) b-b o-b)) (buffer-together 𝓤 H A W (b) b-b o-b) $ move ! (0 ∷ 3 ∷ 1 ∷ 2 ∷ []) $ close-ref ! tt (mem Buffer.the-row) (b) {b = b-b} {o = o-b} $ at-once ! $ move ! (1 ∷ 2 ∷ []) $ join ! $ move ! (1 ∷ 0 ∷ []) $ join ! $ done !
+      nothing ! $ move ! (1 ∷ 0 ∷ []) $ join ! $ move ! (11 ∷ 0 ∷ []) $ join ! $ move ! (1 ∷ 0 ∷ []) $ join ! $ move ! (1 ∷ 0 ∷ []) $ join ! $ move ! (1 ∷ 0 ∷ []) $ join ! $ move ! (1 ∷ 0 ∷ []) $ join ! $ move ! (1 ∷ 0 ∷ []) $ join ! $ move ! (1 ∷ 0 ∷ []) $ join ! $ move ! (0 ∷ 4 ∷ []) $ use2 W (‵ (partAt Buffer.the-row fullShare (b) b-b o-b)) (buffer-together 𝓤 H A W (b) b-b o-b) $ move ! (0 ∷ 3 ∷ 1 ∷ 2 ∷ []) $ close-ref ! tt (mem Buffer.the-row) (b) {b = b-b} {o = o-b} $ at-once ! $ move ! (1 ∷ 2 ∷ []) $ join ! $ move ! (1 ∷ 0 ∷ []) $ join ! $ done !
 
   goes-to-core : Req → (n-b : Names-b) → ent 𝓤 (mean 𝓤 H A (Refs-b n-b ⊛ Tokens-b n-b ⊛ ‵ (MutRef (named 1) κ-facts (Array u64 4) .own (record { ptr = (b-facts, o-facts); name = γ-facts; now = facts }) (vptr b-facts o-facts ∷ [])) ⊛ ‵ (flft κ-facts q-facts) ⊛ ‵ (MutRef (named 2) κ-address (Array u8 32) .own (record { ptr = (b-address, o-address); name = γ-address; now = address }) (vptr b-address o-address ∷ [])) ⊛ ‵ (flft κ-address q-address) ⊛ ‵ (MutRef (named 3) κ-hash (Array u8 32) .own (record { ptr = (b-hash, o-hash); name = γ-hash; now = hash }) (vptr b-hash o-hash ∷ [])) ⊛ ‵ (flft κ-hash q-hash))) (Core 𝓤 H A at-mem run .pre (to-core n-b))
   goes-to-core pre n-b =

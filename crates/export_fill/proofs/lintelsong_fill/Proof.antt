@@ -16,7 +16,7 @@ use prog.Wp.{Heap, Calls, Loops, WpFn, Tables}
 use ghost.Atoms.{Atoms}
 use contract.Monad.{Fun, fact}
 use contract.Running.{givenOf, tables, tablesOf}
-use types.Kit.{Given, Item, ‵, raw, some, later, mean, _⊛_, ⋆, _$_, _∵_, !, qed, by, move, keep, drop, use1, use3, split, join, pick, rewrite, fsplit, fsplit3, fjoin, fjoin3, feqI, feqL, suffices, frame, await, updating, now as at-once, show, done}
+use types.Kit.{Given, Item, ‵, raw, some, later, mean, _⊛_, ⋆, _$_, _∵_, !, qed, by, move, keep, drop, use1, use2, use3, split, join, pick, rewrite, fsplit, fsplit3, fjoin, fjoin3, feqI, feqL, suffices, frame, await, updating, now as at-once, show, done}
 use types.Run.{look, init, forget, stop, hop, fld, from, load, addr, and-then, no-more, assigns, land, returns, enter, alloc1, alloc0, params1, pass1, pass0, free1, free0}
 use types.Part.{whole, sub, look-in, agg}
 use types.Mut.{open-ref, close-ref}
@@ -258,14 +258,14 @@ module _ {M : Type 1} (𝓤 : URA M) (H : Heap 𝓤) (A : Atoms 𝓤) (W : Given
   lend-b : ent 𝓤 (mean 𝓤 H A (‵ (fobs γ-b (Buffer.the-row .coded .code b)) ⊛ ‵ (fbor κ-b (Body (mem Buffer.the-row) b-b o-b γ-b)) ⊛ ‵ (flft κ-b q-b))) (mean 𝓤 H A (later (some (λ (n-b : Names-b). Refs-b n-b ⊛ (Tokens-b n-b ⊛ Kept-b n-b)))))
   lend-b =
       qed W ((‵ (fobs γ-b (Buffer.the-row .coded .code b)) ⊛ ‵ (fbor κ-b (Body (mem Buffer.the-row) b-b o-b γ-b)) ⊛ ‵ (flft κ-b q-b)) ∷ []) ∵
-      updating ! $ split ! $ move ! (1 ∷ []) $ split ! $ move ! (2 ∷ 0 ∷ 1 ∷ []) $ open-ref ! tt (mem Buffer.the-row) {x = b} {b = b-b} {o = o-b} $ use1 W (‵ (partAt (Array u16 2048) fullShare (b .owner) b-b (o-b + 0)) ⊛ ‵ (partAt (Array u8 2048) fullShare (b .kind) b-b (o-b + 4096)) ⊛ ‵ (partAt (Array u8 2048) fullShare (b .form) b-b (o-b + 6144)) ⊛ ‵ (partAt (Array u64 2048) fullShare (b .time) b-b (o-b + 8192)) ⊛ ‵ (partAt (Array u8 65536) fullShare (b .address) b-b (o-b + 24576)) ⊛ ‵ (partAt (Array u8 65536) fullShare (b .hash) b-b (o-b + 90112)) ⊛ ‵ (partAt (Array u8 16384) fullShare (b .accounts) b-b (o-b + 155648)) ⊛ ‵ (partAt (Array u64 528) fullShare (b .numbers) b-b (o-b + 172032)) ⊛ raw (BufferBack 𝓤 H A b-b o-b)) (buffer-apart 𝓤 H A W b b-b o-b) $ split ! $ move ! (1 ∷ []) $ split ! $ move ! (1 ∷ []) $ split ! $ move ! (1 ∷ []) $ split ! $ move ! (1 ∷ []) $ split ! $ move ! (1 ∷ []) $ split ! $ move ! (1 ∷ []) $ split ! $ move ! (1 ∷ []) $ split ! $
-      lft-new ! tt (λ ν0. move ! (9 ∷ []) $ use1 W (later (some (λ (δ0 : GName). ‵ (MutRef (named 0) (ν0 ∷ []) (Array u16 2048) .own (x0 (δ0)) (vptr b-b (o-b + 0) ∷ [])) ⊛ ‵ (flent (ν0 ∷ []) (Body (mem (Array u16 2048)) b-b (o-b + 0) (δ0)))))) (lends-ref 𝓤 H A W (Array u16 2048) (named 0) (ν0 ∷ []) (b .owner) b-b (o-b + 0)) $ await ! tt $ pick ! (λ δ0. split ! $
-      lft-new ! tt (λ ν1. move ! (11 ∷ []) $ use1 W (later (some (λ (δ1 : GName). ‵ (MutRef (named 1) (ν1 ∷ []) (Array u8 2048) .own (x1 (δ1)) (vptr b-b (o-b + 4096) ∷ [])) ⊛ ‵ (flent (ν1 ∷ []) (Body (mem (Array u8 2048)) b-b (o-b + 4096) (δ1)))))) (lends-ref 𝓤 H A W (Array u8 2048) (named 1) (ν1 ∷ []) (b .kind) b-b (o-b + 4096)) $ await ! tt $ pick ! (λ δ1. split ! $
-      lft-new ! tt (λ ν2. move ! (13 ∷ []) $ use1 W (later (some (λ (δ2 : GName). ‵ (MutRef (named 2) (ν2 ∷ []) (Array u8 2048) .own (x2 (δ2)) (vptr b-b (o-b + 6144) ∷ [])) ⊛ ‵ (flent (ν2 ∷ []) (Body (mem (Array u8 2048)) b-b (o-b + 6144) (δ2)))))) (lends-ref 𝓤 H A W (Array u8 2048) (named 2) (ν2 ∷ []) (b .form) b-b (o-b + 6144)) $ await ! tt $ pick ! (λ δ2. split ! $
-      lft-new ! tt (λ ν3. move ! (15 ∷ []) $ use1 W (later (some (λ (δ3 : GName). ‵ (MutRef (named 3) (ν3 ∷ []) (Array u64 2048) .own (x3 (δ3)) (vptr b-b (o-b + 8192) ∷ [])) ⊛ ‵ (flent (ν3 ∷ []) (Body (mem (Array u64 2048)) b-b (o-b + 8192) (δ3)))))) (lends-ref 𝓤 H A W (Array u64 2048) (named 3) (ν3 ∷ []) (b .time) b-b (o-b + 8192)) $ await ! tt $ pick ! (λ δ3. split ! $
-      lft-new ! tt (λ ν4. move ! (17 ∷ []) $ use1 W (later (some (λ (δ4 : GName). ‵ (MutRef (named 4) (ν4 ∷ []) (Array u8 65536) .own (x4 (δ4)) (vptr b-b (o-b + 24576) ∷ [])) ⊛ ‵ (flent (ν4 ∷ []) (Body (mem (Array u8 65536)) b-b (o-b + 24576) (δ4)))))) (lends-ref 𝓤 H A W (Array u8 65536) (named 4) (ν4 ∷ []) (b .address) b-b (o-b + 24576)) $ await ! tt $ pick ! (λ δ4. split ! $
-      lft-new ! tt (λ ν5. move ! (19 ∷ []) $ use1 W (later (some (λ (δ5 : GName). ‵ (MutRef (named 5) (ν5 ∷ []) (Array u8 65536) .own (x5 (δ5)) (vptr b-b (o-b + 90112) ∷ [])) ⊛ ‵ (flent (ν5 ∷ []) (Body (mem (Array u8 65536)) b-b (o-b + 90112) (δ5)))))) (lends-ref 𝓤 H A W (Array u8 65536) (named 5) (ν5 ∷ []) (b .hash) b-b (o-b + 90112)) $ await ! tt $ pick ! (λ δ5. split ! $
-      lft-new ! tt (λ ν6. move ! (21 ∷ []) $ use1 W (later (some (λ (δ6 : GName). ‵ (MutRef (named 6) (ν6 ∷ []) (Array u8 16384) .own (x6 (δ6)) (vptr b-b (o-b + 155648) ∷ [])) ⊛ ‵ (flent (ν6 ∷ []) (Body (mem (Array u8 16384)) b-b (o-b + 155648) (δ6)))))) (lends-ref 𝓤 H A W (Array u8 16384) (named 6) (ν6 ∷ []) (b .accounts) b-b (o-b + 155648)) $ await ! tt $ pick ! (λ δ6. split ! $
+      updating ! $ split ! $ move ! (1 ∷ []) $ split ! $ move ! (2 ∷ 0 ∷ 1 ∷ []) $ open-ref ! tt (mem Buffer.the-row) {x = b} {b = b-b} {o = o-b} $ use1 W ((‵ (partAt (Array u16 2048) fullShare (b .owner) b-b (o-b + 0)) ⊛ ‵ (partAt (Array u8 2048) fullShare (b .kind) b-b (o-b + 4096)) ⊛ ‵ (partAt (Array u8 2048) fullShare (b .form) b-b (o-b + 6144)) ⊛ ‵ (partAt (Array u64 2048) fullShare (b .time) b-b (o-b + 8192)) ⊛ ‵ (partAt (Array u8 65536) fullShare (b .address) b-b (o-b + 24576)) ⊛ ‵ (partAt (Array u8 65536) fullShare (b .hash) b-b (o-b + 90112)) ⊛ ‵ (partAt (Array u8 16384) fullShare (b .accounts) b-b (o-b + 155648)) ⊛ ‵ (partAt (Array u64 528) fullShare (b .numbers) b-b (o-b + 172032)) ⊛ ‵ (ftrue)) ⊛ raw (BufferBack 𝓤 H A b-b o-b)) (buffer-apart 𝓤 H A W b b-b o-b) $ split ! $ split ! $ move ! (1 ∷ []) $ split ! $ move ! (1 ∷ []) $ split ! $ move ! (1 ∷ []) $ split ! $ move ! (1 ∷ []) $ split ! $ move ! (1 ∷ []) $ split ! $ move ! (1 ∷ []) $ split ! $ move ! (1 ∷ []) $ split ! $ move ! (1 ∷ []) $ drop ! $
+      lft-new ! tt (λ ν0. move ! (8 ∷ []) $ use1 W (later (some (λ (δ0 : GName). ‵ (MutRef (named 0) (ν0 ∷ []) (Array u16 2048) .own (x0 (δ0)) (vptr b-b (o-b + 0) ∷ [])) ⊛ ‵ (flent (ν0 ∷ []) (Body (mem (Array u16 2048)) b-b (o-b + 0) (δ0)))))) (lends-ref 𝓤 H A W (Array u16 2048) (named 0) (ν0 ∷ []) (b .owner) b-b (o-b + 0)) $ await ! tt $ pick ! (λ δ0. split ! $
+      lft-new ! tt (λ ν1. move ! (10 ∷ []) $ use1 W (later (some (λ (δ1 : GName). ‵ (MutRef (named 1) (ν1 ∷ []) (Array u8 2048) .own (x1 (δ1)) (vptr b-b (o-b + 4096) ∷ [])) ⊛ ‵ (flent (ν1 ∷ []) (Body (mem (Array u8 2048)) b-b (o-b + 4096) (δ1)))))) (lends-ref 𝓤 H A W (Array u8 2048) (named 1) (ν1 ∷ []) (b .kind) b-b (o-b + 4096)) $ await ! tt $ pick ! (λ δ1. split ! $
+      lft-new ! tt (λ ν2. move ! (12 ∷ []) $ use1 W (later (some (λ (δ2 : GName). ‵ (MutRef (named 2) (ν2 ∷ []) (Array u8 2048) .own (x2 (δ2)) (vptr b-b (o-b + 6144) ∷ [])) ⊛ ‵ (flent (ν2 ∷ []) (Body (mem (Array u8 2048)) b-b (o-b + 6144) (δ2)))))) (lends-ref 𝓤 H A W (Array u8 2048) (named 2) (ν2 ∷ []) (b .form) b-b (o-b + 6144)) $ await ! tt $ pick ! (λ δ2. split ! $
+      lft-new ! tt (λ ν3. move ! (14 ∷ []) $ use1 W (later (some (λ (δ3 : GName). ‵ (MutRef (named 3) (ν3 ∷ []) (Array u64 2048) .own (x3 (δ3)) (vptr b-b (o-b + 8192) ∷ [])) ⊛ ‵ (flent (ν3 ∷ []) (Body (mem (Array u64 2048)) b-b (o-b + 8192) (δ3)))))) (lends-ref 𝓤 H A W (Array u64 2048) (named 3) (ν3 ∷ []) (b .time) b-b (o-b + 8192)) $ await ! tt $ pick ! (λ δ3. split ! $
+      lft-new ! tt (λ ν4. move ! (16 ∷ []) $ use1 W (later (some (λ (δ4 : GName). ‵ (MutRef (named 4) (ν4 ∷ []) (Array u8 65536) .own (x4 (δ4)) (vptr b-b (o-b + 24576) ∷ [])) ⊛ ‵ (flent (ν4 ∷ []) (Body (mem (Array u8 65536)) b-b (o-b + 24576) (δ4)))))) (lends-ref 𝓤 H A W (Array u8 65536) (named 4) (ν4 ∷ []) (b .address) b-b (o-b + 24576)) $ await ! tt $ pick ! (λ δ4. split ! $
+      lft-new ! tt (λ ν5. move ! (18 ∷ []) $ use1 W (later (some (λ (δ5 : GName). ‵ (MutRef (named 5) (ν5 ∷ []) (Array u8 65536) .own (x5 (δ5)) (vptr b-b (o-b + 90112) ∷ [])) ⊛ ‵ (flent (ν5 ∷ []) (Body (mem (Array u8 65536)) b-b (o-b + 90112) (δ5)))))) (lends-ref 𝓤 H A W (Array u8 65536) (named 5) (ν5 ∷ []) (b .hash) b-b (o-b + 90112)) $ await ! tt $ pick ! (λ δ5. split ! $
+      lft-new ! tt (λ ν6. move ! (20 ∷ []) $ use1 W (later (some (λ (δ6 : GName). ‵ (MutRef (named 6) (ν6 ∷ []) (Array u8 16384) .own (x6 (δ6)) (vptr b-b (o-b + 155648) ∷ [])) ⊛ ‵ (flent (ν6 ∷ []) (Body (mem (Array u8 16384)) b-b (o-b + 155648) (δ6)))))) (lends-ref 𝓤 H A W (Array u8 16384) (named 6) (ν6 ∷ []) (b .accounts) b-b (o-b + 155648)) $ await ! tt $ pick ! (λ δ6. split ! $
       lft-new ! tt (λ ν7. move ! (22 ∷ []) $ use1 W (later (some (λ (δ7 : GName). ‵ (MutRef (named 7) (ν7 ∷ []) (Array u64 528) .own (x7 (δ7)) (vptr b-b (o-b + 172032) ∷ [])) ⊛ ‵ (flent (ν7 ∷ []) (Body (mem (Array u64 528)) b-b (o-b + 172032) (δ7)))))) (lends-ref 𝓤 H A W (Array u64 528) (named 7) (ν7 ∷ []) (b .numbers) b-b (o-b + 172032)) $ await ! tt $ pick ! (λ δ7. split ! $
       at-once ! $ show ! (λ (n-b : Names-b). mean 𝓤 H A (Refs-b n-b ⊛ (Tokens-b n-b ⊛ Kept-b n-b))) (record { ν0 = ν0; ν1 = ν1; ν2 = ν2; ν3 = ν3; ν4 = ν4; ν5 = ν5; ν6 = ν6; ν7 = ν7; δ0 = δ0; δ1 = δ1; δ2 = δ2; δ3 = δ3; δ4 = δ4; δ5 = δ5; δ6 = δ6; δ7 = δ7 }) $ move ! (26 ∷ 27 ∷ []) $ join ! $ move ! (26 ∷ 0 ∷ []) $ join ! $ move ! (25 ∷ 0 ∷ []) $ join ! $ move ! (2 ∷ 0 ∷ []) $ join ! $ move ! (4 ∷ 0 ∷ []) $ join ! $ move ! (6 ∷ 0 ∷ []) $ join ! $ move ! (8 ∷ 0 ∷ []) $ join ! $ move ! (10 ∷ 0 ∷ []) $ join ! $ move ! (12 ∷ 0 ∷ []) $ join ! $ move ! (14 ∷ 0 ∷ []) $ join ! $ move ! (16 ∷ 0 ∷ []) $ join ! $ move ! (4 ∷ 2 ∷ []) $ join ! $ move ! (5 ∷ 0 ∷ []) $ join ! $ move ! (6 ∷ 0 ∷ []) $ join ! $ move ! (7 ∷ 0 ∷ []) $ join ! $ move ! (8 ∷ 0 ∷ []) $ join ! $ move ! (9 ∷ 0 ∷ []) $ join ! $ move ! (10 ∷ 0 ∷ []) $ join ! $ move ! (3 ∷ 2 ∷ []) $ join ! $ move ! (3 ∷ 0 ∷ []) $ join ! $ move ! (3 ∷ 0 ∷ []) $ join ! $ move ! (3 ∷ 0 ∷ []) $ join ! $ move ! (3 ∷ 0 ∷ []) $ join ! $ move ! (3 ∷ 0 ∷ []) $ join ! $ move ! (3 ∷ 0 ∷ []) $ join ! $ move ! (1 ∷ 2 ∷ []) $ join ! $ move ! (1 ∷ 0 ∷ []) $ join ! $ done !))))))))))))))))
 
@@ -281,7 +281,7 @@ module _ {M : Type 1} (𝓤 : URA M) (H : Heap 𝓤) (A : Atoms 𝓤) (W : Given
       move ! (10 ∷ []) $ lft-end ! tt $ move ! (0 ∷ 17 ∷ 8 ∷ []) $ use3 W (later (‵ (partAt (Array u8 65536) fullShare b·hash b-b (o-b + 90112)))) (ref-back 𝓤 H A W (Array u8 65536) (n-b .ν5 ∷ []) (n-b .δ5) b·hash b-b (o-b + 90112)) $ await ! tt $
       move ! (8 ∷ []) $ lft-end ! tt $ move ! (0 ∷ 15 ∷ 7 ∷ []) $ use3 W (later (‵ (partAt (Array u8 16384) fullShare b·accounts b-b (o-b + 155648)))) (ref-back 𝓤 H A W (Array u8 16384) (n-b .ν6 ∷ []) (n-b .δ6) b·accounts b-b (o-b + 155648)) $ await ! tt $
       move ! (8 ∷ []) $ lft-end ! tt $ move ! (0 ∷ 13 ∷ 8 ∷ []) $ use3 W (later (‵ (partAt (Array u64 528) fullShare b·numbers b-b (o-b + 172032)))) (ref-back 𝓤 H A W (Array u64 528) (n-b .ν7 ∷ []) (n-b .δ7) b·numbers b-b (o-b + 172032)) $ await ! tt $
-      move ! (0 ∷ 11 ∷ []) $ join ! $ move ! (1 ∷ 0 ∷ []) $ join ! $ move ! (1 ∷ 0 ∷ []) $ join ! $ move ! (1 ∷ 0 ∷ []) $ join ! $ move ! (1 ∷ 0 ∷ []) $ join ! $ move ! (1 ∷ 0 ∷ []) $ join ! $ move ! (1 ∷ 0 ∷ []) $ join ! $ move ! (1 ∷ 0 ∷ []) $ join ! $ use1 W (‵ (partAt Buffer.the-row fullShare (record { owner = b·owner; kind = b·kind; form = b·form; time = b·time; address = b·address; hash = b·hash; accounts = b·accounts; numbers = b·numbers }) b-b o-b)) (buffer-together 𝓤 H A W (record { owner = b·owner; kind = b·kind; form = b·form; time = b·time; address = b·address; hash = b·hash; accounts = b·accounts; numbers = b·numbers }) b-b o-b) $ move ! (0 ∷ 3 ∷ 1 ∷ 2 ∷ []) $ close-ref ! tt (mem Buffer.the-row) (record { owner = b·owner; kind = b·kind; form = b·form; time = b·time; address = b·address; hash = b·hash; accounts = b·accounts; numbers = b·numbers }) {b = b-b} {o = o-b} $ at-once ! $ move ! (1 ∷ 2 ∷ []) $ join ! $ move ! (1 ∷ 0 ∷ []) $ join ! $ done !
+      nothing ! $ move ! (1 ∷ 0 ∷ []) $ join ! $ move ! (1 ∷ 0 ∷ []) $ join ! $ move ! (1 ∷ 0 ∷ []) $ join ! $ move ! (1 ∷ 0 ∷ []) $ join ! $ move ! (1 ∷ 0 ∷ []) $ join ! $ move ! (1 ∷ 0 ∷ []) $ join ! $ move ! (1 ∷ 0 ∷ []) $ join ! $ move ! (1 ∷ 0 ∷ []) $ join ! $ move ! (0 ∷ 4 ∷ []) $ use2 W (‵ (partAt Buffer.the-row fullShare (record { owner = b·owner; kind = b·kind; form = b·form; time = b·time; address = b·address; hash = b·hash; accounts = b·accounts; numbers = b·numbers }) b-b o-b)) (buffer-together 𝓤 H A W (record { owner = b·owner; kind = b·kind; form = b·form; time = b·time; address = b·address; hash = b·hash; accounts = b·accounts; numbers = b·numbers }) b-b o-b) $ move ! (0 ∷ 3 ∷ 1 ∷ 2 ∷ []) $ close-ref ! tt (mem Buffer.the-row) (record { owner = b·owner; kind = b·kind; form = b·form; time = b·time; address = b·address; hash = b·hash; accounts = b·accounts; numbers = b·numbers }) {b = b-b} {o = o-b} $ at-once ! $ move ! (1 ∷ 2 ∷ []) $ join ! $ move ! (1 ∷ 0 ∷ []) $ join ! $ done !
 
   -- g: what it lends, with the tokens of the lifetimes; and what is kept meanwhile
   abbrev Refs-g : Names-g → Item 𝓤
@@ -296,19 +296,19 @@ module _ {M : Type 1} (𝓤 : URA M) (H : Heap 𝓤) (A : Atoms 𝓤) (W : Given
   lend-g : ent 𝓤 (mean 𝓤 H A (‵ (fobs γ-g (Group.the-row .coded .code g)) ⊛ ‵ (fbor κ-g (Body (mem Group.the-row) b-g o-g γ-g)) ⊛ ‵ (flft κ-g q-g))) (mean 𝓤 H A (later (some (λ (n-g : Names-g). Refs-g n-g ⊛ (Tokens-g n-g ⊛ Kept-g n-g)))))
   lend-g =
       qed W ((‵ (fobs γ-g (Group.the-row .coded .code g)) ⊛ ‵ (fbor κ-g (Body (mem Group.the-row) b-g o-g γ-g)) ⊛ ‵ (flft κ-g q-g)) ∷ []) ∵
-      updating ! $ split ! $ move ! (1 ∷ []) $ split ! $ move ! (2 ∷ 0 ∷ 1 ∷ []) $ open-ref ! tt (mem Group.the-row) {x = g} {b = b-g} {o = o-g} $ use1 W (‵ (partAt (Array u16 64) fullShare (g .number) b-g (o-g + 0)) ⊛ ‵ (partAt (Array u8 64) fullShare (g .ints) b-g (o-g + 128)) ⊛ ‵ (partAt (Array u8 64) fullShare (g .exts) b-g (o-g + 192)) ⊛ ‵ (partAt (Array u8 32768) fullShare (g .accounts) b-g (o-g + 256)) ⊛ ‵ (partAt (Array u8 1024) fullShare (g .home) b-g (o-g + 33024)) ⊛ ‵ (partAt (Array u16 1024) fullShare (g .owner) b-g (o-g + 34048)) ⊛ ‵ (partAt (Array u8 1024) fullShare (g .kind) b-g (o-g + 36096)) ⊛ ‵ (partAt (Array u8 1024) fullShare (g .form) b-g (o-g + 37120)) ⊛ ‵ (partAt (Array u64 1024) fullShare (g .time) b-g (o-g + 38144)) ⊛ ‵ (partAt (Array u8 32768) fullShare (g .address) b-g (o-g + 46336)) ⊛ ‵ (partAt (Array u8 32768) fullShare (g .hash) b-g (o-g + 79104)) ⊛ ‵ (partAt (Array u32 1088) fullShare (g .buckets) b-g (o-g + 111872)) ⊛ ‵ (partAt (Array u64 16) fullShare (g .numbers) b-g (o-g + 116224)) ⊛ raw (GroupBack 𝓤 H A b-g o-g)) (group-apart 𝓤 H A W g b-g o-g) $ split ! $ move ! (1 ∷ []) $ split ! $ move ! (1 ∷ []) $ split ! $ move ! (1 ∷ []) $ split ! $ move ! (1 ∷ []) $ split ! $ move ! (1 ∷ []) $ split ! $ move ! (1 ∷ []) $ split ! $ move ! (1 ∷ []) $ split ! $ move ! (1 ∷ []) $ split ! $ move ! (1 ∷ []) $ split ! $ move ! (1 ∷ []) $ split ! $ move ! (1 ∷ []) $ split ! $ move ! (1 ∷ []) $ split ! $
-      lft-new ! tt (λ ν8. move ! (14 ∷ []) $ use1 W (later (some (λ (δ8 : GName). ‵ (MutRef (named 8) (ν8 ∷ []) (Array u16 64) .own (x8 (δ8)) (vptr b-g (o-g + 0) ∷ [])) ⊛ ‵ (flent (ν8 ∷ []) (Body (mem (Array u16 64)) b-g (o-g + 0) (δ8)))))) (lends-ref 𝓤 H A W (Array u16 64) (named 8) (ν8 ∷ []) (g .number) b-g (o-g + 0)) $ await ! tt $ pick ! (λ δ8. split ! $
-      lft-new ! tt (λ ν9. move ! (16 ∷ []) $ use1 W (later (some (λ (δ9 : GName). ‵ (MutRef (named 9) (ν9 ∷ []) (Array u8 64) .own (x9 (δ9)) (vptr b-g (o-g + 128) ∷ [])) ⊛ ‵ (flent (ν9 ∷ []) (Body (mem (Array u8 64)) b-g (o-g + 128) (δ9)))))) (lends-ref 𝓤 H A W (Array u8 64) (named 9) (ν9 ∷ []) (g .ints) b-g (o-g + 128)) $ await ! tt $ pick ! (λ δ9. split ! $
-      lft-new ! tt (λ ν10. move ! (18 ∷ []) $ use1 W (later (some (λ (δ10 : GName). ‵ (MutRef (named 10) (ν10 ∷ []) (Array u8 64) .own (x10 (δ10)) (vptr b-g (o-g + 192) ∷ [])) ⊛ ‵ (flent (ν10 ∷ []) (Body (mem (Array u8 64)) b-g (o-g + 192) (δ10)))))) (lends-ref 𝓤 H A W (Array u8 64) (named 10) (ν10 ∷ []) (g .exts) b-g (o-g + 192)) $ await ! tt $ pick ! (λ δ10. split ! $
-      lft-new ! tt (λ ν11. move ! (20 ∷ []) $ use1 W (later (some (λ (δ11 : GName). ‵ (MutRef (named 11) (ν11 ∷ []) (Array u8 32768) .own (x11 (δ11)) (vptr b-g (o-g + 256) ∷ [])) ⊛ ‵ (flent (ν11 ∷ []) (Body (mem (Array u8 32768)) b-g (o-g + 256) (δ11)))))) (lends-ref 𝓤 H A W (Array u8 32768) (named 11) (ν11 ∷ []) (g .accounts) b-g (o-g + 256)) $ await ! tt $ pick ! (λ δ11. split ! $
-      lft-new ! tt (λ ν12. move ! (22 ∷ []) $ use1 W (later (some (λ (δ12 : GName). ‵ (MutRef (named 12) (ν12 ∷ []) (Array u8 1024) .own (x12 (δ12)) (vptr b-g (o-g + 33024) ∷ [])) ⊛ ‵ (flent (ν12 ∷ []) (Body (mem (Array u8 1024)) b-g (o-g + 33024) (δ12)))))) (lends-ref 𝓤 H A W (Array u8 1024) (named 12) (ν12 ∷ []) (g .home) b-g (o-g + 33024)) $ await ! tt $ pick ! (λ δ12. split ! $
-      lft-new ! tt (λ ν13. move ! (24 ∷ []) $ use1 W (later (some (λ (δ13 : GName). ‵ (MutRef (named 13) (ν13 ∷ []) (Array u16 1024) .own (x13 (δ13)) (vptr b-g (o-g + 34048) ∷ [])) ⊛ ‵ (flent (ν13 ∷ []) (Body (mem (Array u16 1024)) b-g (o-g + 34048) (δ13)))))) (lends-ref 𝓤 H A W (Array u16 1024) (named 13) (ν13 ∷ []) (g .owner) b-g (o-g + 34048)) $ await ! tt $ pick ! (λ δ13. split ! $
-      lft-new ! tt (λ ν14. move ! (26 ∷ []) $ use1 W (later (some (λ (δ14 : GName). ‵ (MutRef (named 14) (ν14 ∷ []) (Array u8 1024) .own (x14 (δ14)) (vptr b-g (o-g + 36096) ∷ [])) ⊛ ‵ (flent (ν14 ∷ []) (Body (mem (Array u8 1024)) b-g (o-g + 36096) (δ14)))))) (lends-ref 𝓤 H A W (Array u8 1024) (named 14) (ν14 ∷ []) (g .kind) b-g (o-g + 36096)) $ await ! tt $ pick ! (λ δ14. split ! $
-      lft-new ! tt (λ ν15. move ! (28 ∷ []) $ use1 W (later (some (λ (δ15 : GName). ‵ (MutRef (named 15) (ν15 ∷ []) (Array u8 1024) .own (x15 (δ15)) (vptr b-g (o-g + 37120) ∷ [])) ⊛ ‵ (flent (ν15 ∷ []) (Body (mem (Array u8 1024)) b-g (o-g + 37120) (δ15)))))) (lends-ref 𝓤 H A W (Array u8 1024) (named 15) (ν15 ∷ []) (g .form) b-g (o-g + 37120)) $ await ! tt $ pick ! (λ δ15. split ! $
-      lft-new ! tt (λ ν16. move ! (30 ∷ []) $ use1 W (later (some (λ (δ16 : GName). ‵ (MutRef (named 16) (ν16 ∷ []) (Array u64 1024) .own (x16 (δ16)) (vptr b-g (o-g + 38144) ∷ [])) ⊛ ‵ (flent (ν16 ∷ []) (Body (mem (Array u64 1024)) b-g (o-g + 38144) (δ16)))))) (lends-ref 𝓤 H A W (Array u64 1024) (named 16) (ν16 ∷ []) (g .time) b-g (o-g + 38144)) $ await ! tt $ pick ! (λ δ16. split ! $
-      lft-new ! tt (λ ν17. move ! (32 ∷ []) $ use1 W (later (some (λ (δ17 : GName). ‵ (MutRef (named 17) (ν17 ∷ []) (Array u8 32768) .own (x17 (δ17)) (vptr b-g (o-g + 46336) ∷ [])) ⊛ ‵ (flent (ν17 ∷ []) (Body (mem (Array u8 32768)) b-g (o-g + 46336) (δ17)))))) (lends-ref 𝓤 H A W (Array u8 32768) (named 17) (ν17 ∷ []) (g .address) b-g (o-g + 46336)) $ await ! tt $ pick ! (λ δ17. split ! $
-      lft-new ! tt (λ ν18. move ! (34 ∷ []) $ use1 W (later (some (λ (δ18 : GName). ‵ (MutRef (named 18) (ν18 ∷ []) (Array u8 32768) .own (x18 (δ18)) (vptr b-g (o-g + 79104) ∷ [])) ⊛ ‵ (flent (ν18 ∷ []) (Body (mem (Array u8 32768)) b-g (o-g + 79104) (δ18)))))) (lends-ref 𝓤 H A W (Array u8 32768) (named 18) (ν18 ∷ []) (g .hash) b-g (o-g + 79104)) $ await ! tt $ pick ! (λ δ18. split ! $
-      lft-new ! tt (λ ν19. move ! (36 ∷ []) $ use1 W (later (some (λ (δ19 : GName). ‵ (MutRef (named 19) (ν19 ∷ []) (Array u32 1088) .own (x19 (δ19)) (vptr b-g (o-g + 111872) ∷ [])) ⊛ ‵ (flent (ν19 ∷ []) (Body (mem (Array u32 1088)) b-g (o-g + 111872) (δ19)))))) (lends-ref 𝓤 H A W (Array u32 1088) (named 19) (ν19 ∷ []) (g .buckets) b-g (o-g + 111872)) $ await ! tt $ pick ! (λ δ19. split ! $
+      updating ! $ split ! $ move ! (1 ∷ []) $ split ! $ move ! (2 ∷ 0 ∷ 1 ∷ []) $ open-ref ! tt (mem Group.the-row) {x = g} {b = b-g} {o = o-g} $ use1 W ((‵ (partAt (Array u16 64) fullShare (g .number) b-g (o-g + 0)) ⊛ ‵ (partAt (Array u8 64) fullShare (g .ints) b-g (o-g + 128)) ⊛ ‵ (partAt (Array u8 64) fullShare (g .exts) b-g (o-g + 192)) ⊛ ‵ (partAt (Array u8 32768) fullShare (g .accounts) b-g (o-g + 256)) ⊛ ‵ (partAt (Array u8 1024) fullShare (g .home) b-g (o-g + 33024)) ⊛ ‵ (partAt (Array u16 1024) fullShare (g .owner) b-g (o-g + 34048)) ⊛ ‵ (partAt (Array u8 1024) fullShare (g .kind) b-g (o-g + 36096)) ⊛ ‵ (partAt (Array u8 1024) fullShare (g .form) b-g (o-g + 37120)) ⊛ ‵ (partAt (Array u64 1024) fullShare (g .time) b-g (o-g + 38144)) ⊛ ‵ (partAt (Array u8 32768) fullShare (g .address) b-g (o-g + 46336)) ⊛ ‵ (partAt (Array u8 32768) fullShare (g .hash) b-g (o-g + 79104)) ⊛ ‵ (partAt (Array u32 1088) fullShare (g .buckets) b-g (o-g + 111872)) ⊛ ‵ (partAt (Array u64 16) fullShare (g .numbers) b-g (o-g + 116224)) ⊛ ‵ (ftrue)) ⊛ raw (GroupBack 𝓤 H A b-g o-g)) (group-apart 𝓤 H A W g b-g o-g) $ split ! $ split ! $ move ! (1 ∷ []) $ split ! $ move ! (1 ∷ []) $ split ! $ move ! (1 ∷ []) $ split ! $ move ! (1 ∷ []) $ split ! $ move ! (1 ∷ []) $ split ! $ move ! (1 ∷ []) $ split ! $ move ! (1 ∷ []) $ split ! $ move ! (1 ∷ []) $ split ! $ move ! (1 ∷ []) $ split ! $ move ! (1 ∷ []) $ split ! $ move ! (1 ∷ []) $ split ! $ move ! (1 ∷ []) $ split ! $ move ! (1 ∷ []) $ drop ! $
+      lft-new ! tt (λ ν8. move ! (13 ∷ []) $ use1 W (later (some (λ (δ8 : GName). ‵ (MutRef (named 8) (ν8 ∷ []) (Array u16 64) .own (x8 (δ8)) (vptr b-g (o-g + 0) ∷ [])) ⊛ ‵ (flent (ν8 ∷ []) (Body (mem (Array u16 64)) b-g (o-g + 0) (δ8)))))) (lends-ref 𝓤 H A W (Array u16 64) (named 8) (ν8 ∷ []) (g .number) b-g (o-g + 0)) $ await ! tt $ pick ! (λ δ8. split ! $
+      lft-new ! tt (λ ν9. move ! (15 ∷ []) $ use1 W (later (some (λ (δ9 : GName). ‵ (MutRef (named 9) (ν9 ∷ []) (Array u8 64) .own (x9 (δ9)) (vptr b-g (o-g + 128) ∷ [])) ⊛ ‵ (flent (ν9 ∷ []) (Body (mem (Array u8 64)) b-g (o-g + 128) (δ9)))))) (lends-ref 𝓤 H A W (Array u8 64) (named 9) (ν9 ∷ []) (g .ints) b-g (o-g + 128)) $ await ! tt $ pick ! (λ δ9. split ! $
+      lft-new ! tt (λ ν10. move ! (17 ∷ []) $ use1 W (later (some (λ (δ10 : GName). ‵ (MutRef (named 10) (ν10 ∷ []) (Array u8 64) .own (x10 (δ10)) (vptr b-g (o-g + 192) ∷ [])) ⊛ ‵ (flent (ν10 ∷ []) (Body (mem (Array u8 64)) b-g (o-g + 192) (δ10)))))) (lends-ref 𝓤 H A W (Array u8 64) (named 10) (ν10 ∷ []) (g .exts) b-g (o-g + 192)) $ await ! tt $ pick ! (λ δ10. split ! $
+      lft-new ! tt (λ ν11. move ! (19 ∷ []) $ use1 W (later (some (λ (δ11 : GName). ‵ (MutRef (named 11) (ν11 ∷ []) (Array u8 32768) .own (x11 (δ11)) (vptr b-g (o-g + 256) ∷ [])) ⊛ ‵ (flent (ν11 ∷ []) (Body (mem (Array u8 32768)) b-g (o-g + 256) (δ11)))))) (lends-ref 𝓤 H A W (Array u8 32768) (named 11) (ν11 ∷ []) (g .accounts) b-g (o-g + 256)) $ await ! tt $ pick ! (λ δ11. split ! $
+      lft-new ! tt (λ ν12. move ! (21 ∷ []) $ use1 W (later (some (λ (δ12 : GName). ‵ (MutRef (named 12) (ν12 ∷ []) (Array u8 1024) .own (x12 (δ12)) (vptr b-g (o-g + 33024) ∷ [])) ⊛ ‵ (flent (ν12 ∷ []) (Body (mem (Array u8 1024)) b-g (o-g + 33024) (δ12)))))) (lends-ref 𝓤 H A W (Array u8 1024) (named 12) (ν12 ∷ []) (g .home) b-g (o-g + 33024)) $ await ! tt $ pick ! (λ δ12. split ! $
+      lft-new ! tt (λ ν13. move ! (23 ∷ []) $ use1 W (later (some (λ (δ13 : GName). ‵ (MutRef (named 13) (ν13 ∷ []) (Array u16 1024) .own (x13 (δ13)) (vptr b-g (o-g + 34048) ∷ [])) ⊛ ‵ (flent (ν13 ∷ []) (Body (mem (Array u16 1024)) b-g (o-g + 34048) (δ13)))))) (lends-ref 𝓤 H A W (Array u16 1024) (named 13) (ν13 ∷ []) (g .owner) b-g (o-g + 34048)) $ await ! tt $ pick ! (λ δ13. split ! $
+      lft-new ! tt (λ ν14. move ! (25 ∷ []) $ use1 W (later (some (λ (δ14 : GName). ‵ (MutRef (named 14) (ν14 ∷ []) (Array u8 1024) .own (x14 (δ14)) (vptr b-g (o-g + 36096) ∷ [])) ⊛ ‵ (flent (ν14 ∷ []) (Body (mem (Array u8 1024)) b-g (o-g + 36096) (δ14)))))) (lends-ref 𝓤 H A W (Array u8 1024) (named 14) (ν14 ∷ []) (g .kind) b-g (o-g + 36096)) $ await ! tt $ pick ! (λ δ14. split ! $
+      lft-new ! tt (λ ν15. move ! (27 ∷ []) $ use1 W (later (some (λ (δ15 : GName). ‵ (MutRef (named 15) (ν15 ∷ []) (Array u8 1024) .own (x15 (δ15)) (vptr b-g (o-g + 37120) ∷ [])) ⊛ ‵ (flent (ν15 ∷ []) (Body (mem (Array u8 1024)) b-g (o-g + 37120) (δ15)))))) (lends-ref 𝓤 H A W (Array u8 1024) (named 15) (ν15 ∷ []) (g .form) b-g (o-g + 37120)) $ await ! tt $ pick ! (λ δ15. split ! $
+      lft-new ! tt (λ ν16. move ! (29 ∷ []) $ use1 W (later (some (λ (δ16 : GName). ‵ (MutRef (named 16) (ν16 ∷ []) (Array u64 1024) .own (x16 (δ16)) (vptr b-g (o-g + 38144) ∷ [])) ⊛ ‵ (flent (ν16 ∷ []) (Body (mem (Array u64 1024)) b-g (o-g + 38144) (δ16)))))) (lends-ref 𝓤 H A W (Array u64 1024) (named 16) (ν16 ∷ []) (g .time) b-g (o-g + 38144)) $ await ! tt $ pick ! (λ δ16. split ! $
+      lft-new ! tt (λ ν17. move ! (31 ∷ []) $ use1 W (later (some (λ (δ17 : GName). ‵ (MutRef (named 17) (ν17 ∷ []) (Array u8 32768) .own (x17 (δ17)) (vptr b-g (o-g + 46336) ∷ [])) ⊛ ‵ (flent (ν17 ∷ []) (Body (mem (Array u8 32768)) b-g (o-g + 46336) (δ17)))))) (lends-ref 𝓤 H A W (Array u8 32768) (named 17) (ν17 ∷ []) (g .address) b-g (o-g + 46336)) $ await ! tt $ pick ! (λ δ17. split ! $
+      lft-new ! tt (λ ν18. move ! (33 ∷ []) $ use1 W (later (some (λ (δ18 : GName). ‵ (MutRef (named 18) (ν18 ∷ []) (Array u8 32768) .own (x18 (δ18)) (vptr b-g (o-g + 79104) ∷ [])) ⊛ ‵ (flent (ν18 ∷ []) (Body (mem (Array u8 32768)) b-g (o-g + 79104) (δ18)))))) (lends-ref 𝓤 H A W (Array u8 32768) (named 18) (ν18 ∷ []) (g .hash) b-g (o-g + 79104)) $ await ! tt $ pick ! (λ δ18. split ! $
+      lft-new ! tt (λ ν19. move ! (35 ∷ []) $ use1 W (later (some (λ (δ19 : GName). ‵ (MutRef (named 19) (ν19 ∷ []) (Array u32 1088) .own (x19 (δ19)) (vptr b-g (o-g + 111872) ∷ [])) ⊛ ‵ (flent (ν19 ∷ []) (Body (mem (Array u32 1088)) b-g (o-g + 111872) (δ19)))))) (lends-ref 𝓤 H A W (Array u32 1088) (named 19) (ν19 ∷ []) (g .buckets) b-g (o-g + 111872)) $ await ! tt $ pick ! (λ δ19. split ! $
       lft-new ! tt (λ ν20. move ! (37 ∷ []) $ use1 W (later (some (λ (δ20 : GName). ‵ (MutRef (named 20) (ν20 ∷ []) (Array u64 16) .own (x20 (δ20)) (vptr b-g (o-g + 116224) ∷ [])) ⊛ ‵ (flent (ν20 ∷ []) (Body (mem (Array u64 16)) b-g (o-g + 116224) (δ20)))))) (lends-ref 𝓤 H A W (Array u64 16) (named 20) (ν20 ∷ []) (g .numbers) b-g (o-g + 116224)) $ await ! tt $ pick ! (λ δ20. split ! $
       at-once ! $ show ! (λ (n-g : Names-g). mean 𝓤 H A (Refs-g n-g ⊛ (Tokens-g n-g ⊛ Kept-g n-g))) (record { ν8 = ν8; ν9 = ν9; ν10 = ν10; ν11 = ν11; ν12 = ν12; ν13 = ν13; ν14 = ν14; ν15 = ν15; ν16 = ν16; ν17 = ν17; ν18 = ν18; ν19 = ν19; ν20 = ν20; δ8 = δ8; δ9 = δ9; δ10 = δ10; δ11 = δ11; δ12 = δ12; δ13 = δ13; δ14 = δ14; δ15 = δ15; δ16 = δ16; δ17 = δ17; δ18 = δ18; δ19 = δ19; δ20 = δ20 }) $ move ! (41 ∷ 42 ∷ []) $ join ! $ move ! (41 ∷ 0 ∷ []) $ join ! $ move ! (40 ∷ 0 ∷ []) $ join ! $ move ! (2 ∷ 0 ∷ []) $ join ! $ move ! (4 ∷ 0 ∷ []) $ join ! $ move ! (6 ∷ 0 ∷ []) $ join ! $ move ! (8 ∷ 0 ∷ []) $ join ! $ move ! (10 ∷ 0 ∷ []) $ join ! $ move ! (12 ∷ 0 ∷ []) $ join ! $ move ! (14 ∷ 0 ∷ []) $ join ! $ move ! (16 ∷ 0 ∷ []) $ join ! $ move ! (18 ∷ 0 ∷ []) $ join ! $ move ! (20 ∷ 0 ∷ []) $ join ! $ move ! (22 ∷ 0 ∷ []) $ join ! $ move ! (24 ∷ 0 ∷ []) $ join ! $ move ! (26 ∷ 0 ∷ []) $ join ! $ move ! (4 ∷ 2 ∷ []) $ join ! $ move ! (5 ∷ 0 ∷ []) $ join ! $ move ! (6 ∷ 0 ∷ []) $ join ! $ move ! (7 ∷ 0 ∷ []) $ join ! $ move ! (8 ∷ 0 ∷ []) $ join ! $ move ! (9 ∷ 0 ∷ []) $ join ! $ move ! (10 ∷ 0 ∷ []) $ join ! $ move ! (11 ∷ 0 ∷ []) $ join ! $ move ! (12 ∷ 0 ∷ []) $ join ! $ move ! (13 ∷ 0 ∷ []) $ join ! $ move ! (14 ∷ 0 ∷ []) $ join ! $ move ! (15 ∷ 0 ∷ []) $ join ! $ move ! (3 ∷ 2 ∷ []) $ join ! $ move ! (3 ∷ 0 ∷ []) $ join ! $ move ! (3 ∷ 0 ∷ []) $ join ! $ move ! (3 ∷ 0 ∷ []) $ join ! $ move ! (3 ∷ 0 ∷ []) $ join ! $ move ! (3 ∷ 0 ∷ []) $ join ! $ move ! (3 ∷ 0 ∷ []) $ join ! $ move ! (3 ∷ 0 ∷ []) $ join ! $ move ! (3 ∷ 0 ∷ []) $ join ! $ move ! (3 ∷ 0 ∷ []) $ join ! $ move ! (3 ∷ 0 ∷ []) $ join ! $ move ! (3 ∷ 0 ∷ []) $ join ! $ move ! (1 ∷ 2 ∷ []) $ join ! $ move ! (1 ∷ 0 ∷ []) $ join ! $ done !))))))))))))))))))))))))))
 
@@ -329,7 +329,7 @@ module _ {M : Type 1} (𝓤 : URA M) (H : Heap 𝓤) (A : Atoms 𝓤) (W : Given
       move ! (15 ∷ []) $ lft-end ! tt $ move ! (0 ∷ 22 ∷ 13 ∷ []) $ use3 W (later (‵ (partAt (Array u8 32768) fullShare g·hash b-g (o-g + 79104)))) (ref-back 𝓤 H A W (Array u8 32768) (n-g .ν18 ∷ []) (n-g .δ18) g·hash b-g (o-g + 79104)) $ await ! tt $
       move ! (13 ∷ []) $ lft-end ! tt $ move ! (0 ∷ 20 ∷ 12 ∷ []) $ use3 W (later (‵ (partAt (Array u32 1088) fullShare g·buckets b-g (o-g + 111872)))) (ref-back 𝓤 H A W (Array u32 1088) (n-g .ν19 ∷ []) (n-g .δ19) g·buckets b-g (o-g + 111872)) $ await ! tt $
       move ! (13 ∷ []) $ lft-end ! tt $ move ! (0 ∷ 18 ∷ 13 ∷ []) $ use3 W (later (‵ (partAt (Array u64 16) fullShare g·numbers b-g (o-g + 116224)))) (ref-back 𝓤 H A W (Array u64 16) (n-g .ν20 ∷ []) (n-g .δ20) g·numbers b-g (o-g + 116224)) $ await ! tt $
-      move ! (0 ∷ 16 ∷ []) $ join ! $ move ! (1 ∷ 0 ∷ []) $ join ! $ move ! (1 ∷ 0 ∷ []) $ join ! $ move ! (1 ∷ 0 ∷ []) $ join ! $ move ! (1 ∷ 0 ∷ []) $ join ! $ move ! (1 ∷ 0 ∷ []) $ join ! $ move ! (1 ∷ 0 ∷ []) $ join ! $ move ! (1 ∷ 0 ∷ []) $ join ! $ move ! (1 ∷ 0 ∷ []) $ join ! $ move ! (1 ∷ 0 ∷ []) $ join ! $ move ! (1 ∷ 0 ∷ []) $ join ! $ move ! (1 ∷ 0 ∷ []) $ join ! $ move ! (1 ∷ 0 ∷ []) $ join ! $ use1 W (‵ (partAt Group.the-row fullShare (record { number = g·number; ints = g·ints; exts = g·exts; accounts = g·accounts; home = g·home; owner = g·owner; kind = g·kind; form = g·form; time = g·time; address = g·address; hash = g·hash; buckets = g·buckets; numbers = g·numbers }) b-g o-g)) (group-together 𝓤 H A W (record { number = g·number; ints = g·ints; exts = g·exts; accounts = g·accounts; home = g·home; owner = g·owner; kind = g·kind; form = g·form; time = g·time; address = g·address; hash = g·hash; buckets = g·buckets; numbers = g·numbers }) b-g o-g) $ move ! (0 ∷ 3 ∷ 1 ∷ 2 ∷ []) $ close-ref ! tt (mem Group.the-row) (record { number = g·number; ints = g·ints; exts = g·exts; accounts = g·accounts; home = g·home; owner = g·owner; kind = g·kind; form = g·form; time = g·time; address = g·address; hash = g·hash; buckets = g·buckets; numbers = g·numbers }) {b = b-g} {o = o-g} $ at-once ! $ move ! (1 ∷ 2 ∷ []) $ join ! $ move ! (1 ∷ 0 ∷ []) $ join ! $ done !
+      nothing ! $ move ! (1 ∷ 0 ∷ []) $ join ! $ move ! (1 ∷ 0 ∷ []) $ join ! $ move ! (1 ∷ 0 ∷ []) $ join ! $ move ! (1 ∷ 0 ∷ []) $ join ! $ move ! (1 ∷ 0 ∷ []) $ join ! $ move ! (1 ∷ 0 ∷ []) $ join ! $ move ! (1 ∷ 0 ∷ []) $ join ! $ move ! (1 ∷ 0 ∷ []) $ join ! $ move ! (1 ∷ 0 ∷ []) $ join ! $ move ! (1 ∷ 0 ∷ []) $ join ! $ move ! (1 ∷ 0 ∷ []) $ join ! $ move ! (1 ∷ 0 ∷ []) $ join ! $ move ! (1 ∷ 0 ∷ []) $ join ! $ move ! (0 ∷ 4 ∷ []) $ use2 W (‵ (partAt Group.the-row fullShare (record { number = g·number; ints = g·ints; exts = g·exts; accounts = g·accounts; home = g·home; owner = g·owner; kind = g·kind; form = g·form; time = g·time; address = g·address; hash = g·hash; buckets = g·buckets; numbers = g·numbers }) b-g o-g)) (group-together 𝓤 H A W (record { number = g·number; ints = g·ints; exts = g·exts; accounts = g·accounts; home = g·home; owner = g·owner; kind = g·kind; form = g·form; time = g·time; address = g·address; hash = g·hash; buckets = g·buckets; numbers = g·numbers }) b-g o-g) $ move ! (0 ∷ 3 ∷ 1 ∷ 2 ∷ []) $ close-ref ! tt (mem Group.the-row) (record { number = g·number; ints = g·ints; exts = g·exts; accounts = g·accounts; home = g·home; owner = g·owner; kind = g·kind; form = g·form; time = g·time; address = g·address; hash = g·hash; buckets = g·buckets; numbers = g·numbers }) {b = b-g} {o = o-g} $ at-once ! $ move ! (1 ∷ 2 ∷ []) $ join ! $ move ! (1 ∷ 0 ∷ []) $ join ! $ done !
 
   -- s: what it lends, with the tokens of the lifetimes; and what is kept meanwhile
   abbrev Refs-s : Names-s → Item 𝓤
@@ -344,8 +344,8 @@ module _ {M : Type 1} (𝓤 : URA M) (H : Heap 𝓤) (A : Atoms 𝓤) (W : Given
   lend-s : ent 𝓤 (mean 𝓤 H A (‵ (fobs γ-s (Skipped.the-row .coded .code s)) ⊛ ‵ (fbor κ-s (Body (mem Skipped.the-row) b-s o-s γ-s)) ⊛ ‵ (flft κ-s q-s))) (mean 𝓤 H A (later (some (λ (n-s : Names-s). Refs-s n-s ⊛ (Tokens-s n-s ⊛ Kept-s n-s)))))
   lend-s =
       qed W ((‵ (fobs γ-s (Skipped.the-row .coded .code s)) ⊛ ‵ (fbor κ-s (Body (mem Skipped.the-row) b-s o-s γ-s)) ⊛ ‵ (flft κ-s q-s)) ∷ []) ∵
-      updating ! $ split ! $ move ! (1 ∷ []) $ split ! $ move ! (2 ∷ 0 ∷ 1 ∷ []) $ open-ref ! tt (mem Skipped.the-row) {x = s} {b = b-s} {o = o-s} $ use1 W (‵ (partAt (Array u8 16384) fullShare (s .accounts) b-s (o-s + 0)) ⊛ ‵ (partAt u64 fullShare (s .held) b-s (o-s + 16384)) ⊛ raw (SkippedBack 𝓤 H A b-s o-s)) (skipped-apart 𝓤 H A W s b-s o-s) $ split ! $ move ! (1 ∷ []) $ split ! $
-      lft-new ! tt (λ ν21. move ! (3 ∷ []) $ use1 W (later (some (λ (δ21 : GName). ‵ (MutRef (named 21) (ν21 ∷ []) (Array u8 16384) .own (x21 (δ21)) (vptr b-s (o-s + 0) ∷ [])) ⊛ ‵ (flent (ν21 ∷ []) (Body (mem (Array u8 16384)) b-s (o-s + 0) (δ21)))))) (lends-ref 𝓤 H A W (Array u8 16384) (named 21) (ν21 ∷ []) (s .accounts) b-s (o-s + 0)) $ await ! tt $ pick ! (λ δ21. split ! $
+      updating ! $ split ! $ move ! (1 ∷ []) $ split ! $ move ! (2 ∷ 0 ∷ 1 ∷ []) $ open-ref ! tt (mem Skipped.the-row) {x = s} {b = b-s} {o = o-s} $ use1 W ((‵ (partAt (Array u8 16384) fullShare (s .accounts) b-s (o-s + 0)) ⊛ ‵ (partAt u64 fullShare (s .held) b-s (o-s + 16384)) ⊛ ‵ (ftrue)) ⊛ raw (SkippedBack 𝓤 H A b-s o-s)) (skipped-apart 𝓤 H A W s b-s o-s) $ split ! $ split ! $ move ! (1 ∷ []) $ split ! $ move ! (1 ∷ []) $ drop ! $
+      lft-new ! tt (λ ν21. move ! (2 ∷ []) $ use1 W (later (some (λ (δ21 : GName). ‵ (MutRef (named 21) (ν21 ∷ []) (Array u8 16384) .own (x21 (δ21)) (vptr b-s (o-s + 0) ∷ [])) ⊛ ‵ (flent (ν21 ∷ []) (Body (mem (Array u8 16384)) b-s (o-s + 0) (δ21)))))) (lends-ref 𝓤 H A W (Array u8 16384) (named 21) (ν21 ∷ []) (s .accounts) b-s (o-s + 0)) $ await ! tt $ pick ! (λ δ21. split ! $
       lft-new ! tt (λ ν22. move ! (4 ∷ []) $ use1 W (later (some (λ (δ22 : GName). ‵ (MutRef (named 22) (ν22 ∷ []) u64 .own (x22 (δ22)) (vptr b-s (o-s + 16384) ∷ [])) ⊛ ‵ (flent (ν22 ∷ []) (Body (mem u64) b-s (o-s + 16384) (δ22)))))) (lends-ref 𝓤 H A W u64 (named 22) (ν22 ∷ []) (s .held) b-s (o-s + 16384)) $ await ! tt $ pick ! (λ δ22. split ! $
       at-once ! $ show ! (λ (n-s : Names-s). mean 𝓤 H A (Refs-s n-s ⊛ (Tokens-s n-s ⊛ Kept-s n-s))) (record { ν21 = ν21; ν22 = ν22; δ21 = δ21; δ22 = δ22 }) $ move ! (8 ∷ 9 ∷ []) $ join ! $ move ! (8 ∷ 0 ∷ []) $ join ! $ move ! (7 ∷ 0 ∷ []) $ join ! $ move ! (2 ∷ 0 ∷ []) $ join ! $ move ! (4 ∷ 0 ∷ []) $ join ! $ move ! (4 ∷ 2 ∷ []) $ join ! $ move ! (3 ∷ 2 ∷ []) $ join ! $ move ! (1 ∷ 2 ∷ []) $ join ! $ move ! (1 ∷ 0 ∷ []) $ join ! $ done !))))
 
@@ -355,7 +355,7 @@ module _ {M : Type 1} (𝓤 : URA M) (H : Heap 𝓤) (A : Atoms 𝓤) (W : Given
       updating ! $ split ! $ move ! (1 ∷ []) $ split ! $ move ! (2 ∷ []) $ split ! $ move ! (1 ∷ []) $ split ! $ move ! (1 ∷ []) $ split ! $ move ! (1 ∷ []) $ split ! $ move ! (1 ∷ []) $ split ! $ move ! (6 ∷ []) $ split ! $ move ! (8 ∷ []) $ split ! $
       move ! (2 ∷ []) $ lft-end ! tt $ move ! (0 ∷ 9 ∷ 1 ∷ []) $ use3 W (later (‵ (partAt (Array u8 16384) fullShare s·accounts b-s (o-s + 0)))) (ref-back 𝓤 H A W (Array u8 16384) (n-s .ν21 ∷ []) (n-s .δ21) s·accounts b-s (o-s + 0)) $ await ! tt $
       move ! (2 ∷ []) $ lft-end ! tt $ move ! (0 ∷ 7 ∷ 2 ∷ []) $ use3 W (later (‵ (partAt u64 fullShare s·held b-s (o-s + 16384)))) (ref-back 𝓤 H A W u64 (n-s .ν22 ∷ []) (n-s .δ22) s·held b-s (o-s + 16384)) $ await ! tt $
-      move ! (0 ∷ 5 ∷ []) $ join ! $ move ! (1 ∷ 0 ∷ []) $ join ! $ use1 W (‵ (partAt Skipped.the-row fullShare (record { accounts = s·accounts; held = s·held }) b-s o-s)) (skipped-together 𝓤 H A W (record { accounts = s·accounts; held = s·held }) b-s o-s) $ move ! (0 ∷ 3 ∷ 1 ∷ 2 ∷ []) $ close-ref ! tt (mem Skipped.the-row) (record { accounts = s·accounts; held = s·held }) {b = b-s} {o = o-s} $ at-once ! $ move ! (1 ∷ 2 ∷ []) $ join ! $ move ! (1 ∷ 0 ∷ []) $ join ! $ done !
+      nothing ! $ move ! (1 ∷ 0 ∷ []) $ join ! $ move ! (1 ∷ 0 ∷ []) $ join ! $ move ! (0 ∷ 4 ∷ []) $ use2 W (‵ (partAt Skipped.the-row fullShare (record { accounts = s·accounts; held = s·held }) b-s o-s)) (skipped-together 𝓤 H A W (record { accounts = s·accounts; held = s·held }) b-s o-s) $ move ! (0 ∷ 3 ∷ 1 ∷ 2 ∷ []) $ close-ref ! tt (mem Skipped.the-row) (record { accounts = s·accounts; held = s·held }) {b = b-s} {o = o-s} $ at-once ! $ move ! (1 ∷ 2 ∷ []) $ join ! $ move ! (1 ∷ 0 ∷ []) $ join ! $ done !
 
   goes-to-core : Req → (n-b : Names-b) (n-g : Names-g) (n-s : Names-s) → ent 𝓤 (mean 𝓤 H A (Refs-b n-b ⊛ Tokens-b n-b ⊛ Refs-g n-g ⊛ Tokens-g n-g ⊛ Refs-s n-s ⊛ Tokens-s n-s ⊛ ‵ (ShrSlice (named 3) κ-names u8 .own (record { ptr = (b-names, o-names); name = γ-names; now = names }) (sliceVal (b-names, o-names) (length names) ∷ [])) ⊛ ‵ (flft κ-names q-names) ⊛ ‵ (ShrSlice (named 4) κ-verdicts u8 .own (record { ptr = (b-verdicts, o-verdicts); name = γ-verdicts; now = verdicts }) (sliceVal (b-verdicts, o-verdicts) (length verdicts) ∷ [])) ⊛ ‵ (flft κ-verdicts q-verdicts) ⊛ ‵ (ShrSlice (named 5) κ-costs u64 .own (record { ptr = (b-costs, o-costs); name = γ-costs; now = costs }) (sliceVal (b-costs, o-costs) (length costs) ∷ [])) ⊛ ‵ (flft κ-costs q-costs) ⊛ ‵ (MutSlice (named 6) κ-lts u64 .own (record { ptr = (b-lts, o-lts); name = γ-lts; now = lts }) (sliceVal (b-lts, o-lts) (length lts) ∷ [])) ⊛ ‵ (flft κ-lts q-lts) ⊛ ‵ (MutSlice (named 7) κ-hashes u8 .own (record { ptr = (b-hashes, o-hashes); name = γ-hashes; now = hashes }) (sliceVal (b-hashes, o-hashes) (length hashes) ∷ [])) ⊛ ‵ (flft κ-hashes q-hashes) ⊛ ‵ (MutRef (named 8) κ-out (Array u64 3) .own (record { ptr = (b-out, o-out); name = γ-out; now = out }) (vptr b-out o-out ∷ [])) ⊛ ‵ (flft κ-out q-out))) (Core 𝓤 H A at-mem run .pre (to-core n-b n-g n-s))
   goes-to-core pre n-b n-g n-s =

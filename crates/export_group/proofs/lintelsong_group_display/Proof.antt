@@ -16,7 +16,7 @@ use prog.Wp.{Heap, Calls, Loops, WpFn, Tables}
 use ghost.Atoms.{Atoms}
 use contract.Monad.{Fun, fact}
 use contract.Running.{givenOf, tables, tablesOf}
-use types.Kit.{Given, Item, ‵, raw, some, later, mean, _⊛_, ⋆, _$_, _∵_, !, qed, by, move, keep, drop, use1, split, join, pick, rewrite, fsplit, fsplit3, fjoin, fjoin3, feqI, feqL, suffices, frame, await, updating, now as at-once, show, done}
+use types.Kit.{Given, Item, ‵, raw, some, later, mean, _⊛_, ⋆, _$_, _∵_, !, qed, by, move, keep, drop, use1, use2, split, join, pick, rewrite, fsplit, fsplit3, fjoin, fjoin3, feqI, feqL, suffices, frame, await, updating, now as at-once, show, done}
 use types.Run.{look, init, forget, stop, hop, fld, from, load, addr, and-then, no-more, assigns, land, returns, enter, alloc1, alloc0, params1, pass1, pass0, free1, free0}
 use types.Part.{whole, sub, look-in, agg}
 use types.Mut.{open-ref, close-ref}
@@ -112,16 +112,16 @@ module _ {M : Type 1} (𝓤 : URA M) (H : Heap 𝓤) (A : Atoms 𝓤) (W : Given
   lend-g : ent 𝓤 (mean 𝓤 H A (‵ (fobs γ-g (Group.the-row .coded .code g)) ⊛ ‵ (fbor κ-g (Body (mem Group.the-row) b-g o-g γ-g)) ⊛ ‵ (flft κ-g q-g))) (mean 𝓤 H A (later (some (λ (n-g : Names-g). Refs-g n-g ⊛ (Tokens-g n-g ⊛ Kept-g n-g)))))
   lend-g =
       qed W ((‵ (fobs γ-g (Group.the-row .coded .code g)) ⊛ ‵ (fbor κ-g (Body (mem Group.the-row) b-g o-g γ-g)) ⊛ ‵ (flft κ-g q-g)) ∷ []) ∵
-      updating ! $ split ! $ move ! (1 ∷ []) $ split ! $ move ! (2 ∷ 0 ∷ 1 ∷ []) $ open-ref ! tt (mem Group.the-row) {x = g} {b = b-g} {o = o-g} $ use1 W (‵ (partAt (Array u16 64) fullShare (g .number) b-g (o-g + 0)) ⊛ ‵ (partAt (Array u8 64) fullShare (g .ints) b-g (o-g + 128)) ⊛ ‵ (partAt (Array u8 64) fullShare (g .exts) b-g (o-g + 192)) ⊛ ‵ (partAt (Array u8 32768) fullShare (g .accounts) b-g (o-g + 256)) ⊛ ‵ (partAt (Array u8 1024) fullShare (g .home) b-g (o-g + 33024)) ⊛ ‵ (partAt (Array u16 1024) fullShare (g .owner) b-g (o-g + 34048)) ⊛ ‵ (partAt (Array u8 1024) fullShare (g .kind) b-g (o-g + 36096)) ⊛ ‵ (partAt (Array u8 1024) fullShare (g .form) b-g (o-g + 37120)) ⊛ ‵ (partAt (Array u64 1024) fullShare (g .time) b-g (o-g + 38144)) ⊛ ‵ (partAt (Array u8 32768) fullShare (g .address) b-g (o-g + 46336)) ⊛ ‵ (partAt (Array u8 32768) fullShare (g .hash) b-g (o-g + 79104)) ⊛ ‵ (partAt (Array u32 1088) fullShare (g .buckets) b-g (o-g + 111872)) ⊛ ‵ (partAt (Array u64 16) fullShare (g .numbers) b-g (o-g + 116224)) ⊛ raw (GroupBack 𝓤 H A b-g o-g)) (group-apart 𝓤 H A W g b-g o-g) $ split ! $ move ! (1 ∷ []) $ split ! $ move ! (1 ∷ []) $ split ! $ move ! (1 ∷ []) $ split ! $ move ! (1 ∷ []) $ split ! $ move ! (1 ∷ []) $ split ! $ move ! (1 ∷ []) $ split ! $ move ! (1 ∷ []) $ split ! $ move ! (1 ∷ []) $ split ! $ move ! (1 ∷ []) $ split ! $ move ! (1 ∷ []) $ split ! $ move ! (1 ∷ []) $ split ! $ move ! (1 ∷ []) $ split ! $
+      updating ! $ split ! $ move ! (1 ∷ []) $ split ! $ move ! (2 ∷ 0 ∷ 1 ∷ []) $ open-ref ! tt (mem Group.the-row) {x = g} {b = b-g} {o = o-g} $ use1 W ((‵ (partAt (Array u16 64) fullShare (g .number) b-g (o-g + 0)) ⊛ ‵ (partAt (Array u8 64) fullShare (g .ints) b-g (o-g + 128)) ⊛ ‵ (partAt (Array u8 64) fullShare (g .exts) b-g (o-g + 192)) ⊛ ‵ (partAt (Array u8 32768) fullShare (g .accounts) b-g (o-g + 256)) ⊛ ‵ (partAt (Array u8 1024) fullShare (g .home) b-g (o-g + 33024)) ⊛ ‵ (partAt (Array u16 1024) fullShare (g .owner) b-g (o-g + 34048)) ⊛ ‵ (partAt (Array u8 1024) fullShare (g .kind) b-g (o-g + 36096)) ⊛ ‵ (partAt (Array u8 1024) fullShare (g .form) b-g (o-g + 37120)) ⊛ ‵ (partAt (Array u64 1024) fullShare (g .time) b-g (o-g + 38144)) ⊛ ‵ (partAt (Array u8 32768) fullShare (g .address) b-g (o-g + 46336)) ⊛ ‵ (partAt (Array u8 32768) fullShare (g .hash) b-g (o-g + 79104)) ⊛ ‵ (partAt (Array u32 1088) fullShare (g .buckets) b-g (o-g + 111872)) ⊛ ‵ (partAt (Array u64 16) fullShare (g .numbers) b-g (o-g + 116224)) ⊛ ‵ (ftrue)) ⊛ raw (GroupBack 𝓤 H A b-g o-g)) (group-apart 𝓤 H A W g b-g o-g) $ split ! $ split ! $ move ! (1 ∷ []) $ split ! $ move ! (1 ∷ []) $ split ! $ move ! (1 ∷ []) $ split ! $ move ! (1 ∷ []) $ split ! $ move ! (1 ∷ []) $ split ! $ move ! (1 ∷ []) $ split ! $ move ! (1 ∷ []) $ split ! $ move ! (1 ∷ []) $ split ! $ move ! (1 ∷ []) $ split ! $ move ! (1 ∷ []) $ split ! $ move ! (1 ∷ []) $ split ! $ move ! (1 ∷ []) $ split ! $ move ! (1 ∷ []) $ drop ! $
       lft-new ! tt (λ ν0. move ! (1 ∷ []) $ use1 W (later (some (λ (δ0 : GName). ‵ (ShrRef (named 0) (ν0 ∷ []) (Array u64 16) .own (x0 (δ0)) (vptr b-g (o-g + 116224) ∷ [])) ⊛ ‵ (flent (ν0 ∷ []) (partAt (Array u64 16) fullShare (g .numbers) b-g (o-g + 116224)))))) (lends-shr 𝓤 H A W (Array u64 16) (named 0) (ν0 ∷ []) fullShare (g .numbers) b-g (o-g + 116224)) $ await ! tt $ pick ! (λ δ0. split ! $
-      at-once ! $ show ! (λ (n-g : Names-g). mean 𝓤 H A (Refs-g n-g ⊛ (Tokens-g n-g ⊛ Kept-g n-g))) (record { ν0 = ν0; δ0 = δ0 }) $ move ! (17 ∷ 18 ∷ []) $ join ! $ move ! (17 ∷ 0 ∷ []) $ join ! $ move ! (4 ∷ 0 ∷ []) $ join ! $ move ! (4 ∷ 0 ∷ []) $ join ! $ move ! (4 ∷ 0 ∷ []) $ join ! $ move ! (4 ∷ 0 ∷ []) $ join ! $ move ! (4 ∷ 0 ∷ []) $ join ! $ move ! (4 ∷ 0 ∷ []) $ join ! $ move ! (4 ∷ 0 ∷ []) $ join ! $ move ! (4 ∷ 0 ∷ []) $ join ! $ move ! (4 ∷ 0 ∷ []) $ join ! $ move ! (4 ∷ 0 ∷ []) $ join ! $ move ! (4 ∷ 0 ∷ []) $ join ! $ move ! (4 ∷ 0 ∷ []) $ join ! $ move ! (4 ∷ 0 ∷ []) $ join ! $ move ! (2 ∷ 0 ∷ []) $ join ! $ move ! (2 ∷ 0 ∷ []) $ join ! $ move ! (1 ∷ 0 ∷ []) $ join ! $ done !))
+      at-once ! $ show ! (λ (n-g : Names-g). mean 𝓤 H A (Refs-g n-g ⊛ (Tokens-g n-g ⊛ Kept-g n-g))) (record { ν0 = ν0; δ0 = δ0 }) $ move ! (17 ∷ 18 ∷ []) $ join ! $ move ! (17 ∷ 0 ∷ []) $ join ! $ move ! (16 ∷ 0 ∷ []) $ join ! $ move ! (4 ∷ 0 ∷ []) $ join ! $ move ! (4 ∷ 0 ∷ []) $ join ! $ move ! (4 ∷ 0 ∷ []) $ join ! $ move ! (4 ∷ 0 ∷ []) $ join ! $ move ! (4 ∷ 0 ∷ []) $ join ! $ move ! (4 ∷ 0 ∷ []) $ join ! $ move ! (4 ∷ 0 ∷ []) $ join ! $ move ! (4 ∷ 0 ∷ []) $ join ! $ move ! (4 ∷ 0 ∷ []) $ join ! $ move ! (4 ∷ 0 ∷ []) $ join ! $ move ! (4 ∷ 0 ∷ []) $ join ! $ move ! (4 ∷ 0 ∷ []) $ join ! $ move ! (2 ∷ 0 ∷ []) $ join ! $ move ! (2 ∷ 0 ∷ []) $ join ! $ move ! (1 ∷ 0 ∷ []) $ join ! $ done !))
 
   back-g : (n-g : Names-g) → ent 𝓤 (mean 𝓤 H A (Kept-g n-g ⊛ (Tokens-g n-g))) (mean 𝓤 H A (later (‵ (fobs γ-g (Group.the-row .coded .code (g))) ⊛ ‵ (fbor κ-g (Body (mem Group.the-row) b-g o-g γ-g)) ⊛ ‵ (flft κ-g q-g))))
   back-g n-g =
       qed W ((Kept-g n-g ⊛ (Tokens-g n-g)) ∷ []) ∵
       updating ! $ split ! $ split ! $ move ! (1 ∷ []) $ split ! $ move ! (1 ∷ []) $ split ! $ move ! (1 ∷ []) $ split ! $ move ! (1 ∷ []) $ split ! $ move ! (1 ∷ []) $ split ! $ move ! (1 ∷ []) $ split ! $ move ! (1 ∷ []) $ split ! $ move ! (1 ∷ []) $ split ! $ move ! (1 ∷ []) $ split ! $ move ! (1 ∷ []) $ split ! $ move ! (1 ∷ []) $ split ! $ move ! (1 ∷ []) $ split ! $ move ! (1 ∷ []) $ split ! $ move ! (1 ∷ []) $ split ! $ move ! (1 ∷ []) $ split ! $
       move ! (17 ∷ []) $ lft-end ! tt $ move ! (0 ∷ 17 ∷ []) $ lent-back ! tt $
-      move ! (0 ∷ 4 ∷ []) $ join ! $ move ! (4 ∷ 0 ∷ []) $ join ! $ move ! (4 ∷ 0 ∷ []) $ join ! $ move ! (4 ∷ 0 ∷ []) $ join ! $ move ! (4 ∷ 0 ∷ []) $ join ! $ move ! (4 ∷ 0 ∷ []) $ join ! $ move ! (4 ∷ 0 ∷ []) $ join ! $ move ! (4 ∷ 0 ∷ []) $ join ! $ move ! (4 ∷ 0 ∷ []) $ join ! $ move ! (4 ∷ 0 ∷ []) $ join ! $ move ! (4 ∷ 0 ∷ []) $ join ! $ move ! (4 ∷ 0 ∷ []) $ join ! $ move ! (4 ∷ 0 ∷ []) $ join ! $ use1 W (‵ (partAt Group.the-row fullShare (g) b-g o-g)) (group-together 𝓤 H A W (g) b-g o-g) $ move ! (0 ∷ 3 ∷ 1 ∷ 2 ∷ []) $ close-ref ! tt (mem Group.the-row) (g) {b = b-g} {o = o-g} $ at-once ! $ move ! (1 ∷ 2 ∷ []) $ join ! $ move ! (1 ∷ 0 ∷ []) $ join ! $ done !
+      nothing ! $ move ! (1 ∷ 0 ∷ []) $ join ! $ move ! (5 ∷ 0 ∷ []) $ join ! $ move ! (5 ∷ 0 ∷ []) $ join ! $ move ! (5 ∷ 0 ∷ []) $ join ! $ move ! (5 ∷ 0 ∷ []) $ join ! $ move ! (5 ∷ 0 ∷ []) $ join ! $ move ! (5 ∷ 0 ∷ []) $ join ! $ move ! (5 ∷ 0 ∷ []) $ join ! $ move ! (5 ∷ 0 ∷ []) $ join ! $ move ! (5 ∷ 0 ∷ []) $ join ! $ move ! (5 ∷ 0 ∷ []) $ join ! $ move ! (5 ∷ 0 ∷ []) $ join ! $ move ! (5 ∷ 0 ∷ []) $ join ! $ move ! (0 ∷ 4 ∷ []) $ use2 W (‵ (partAt Group.the-row fullShare (g) b-g o-g)) (group-together 𝓤 H A W (g) b-g o-g) $ move ! (0 ∷ 3 ∷ 1 ∷ 2 ∷ []) $ close-ref ! tt (mem Group.the-row) (g) {b = b-g} {o = o-g} $ at-once ! $ move ! (1 ∷ 2 ∷ []) $ join ! $ move ! (1 ∷ 0 ∷ []) $ join ! $ done !
 
   goes-to-core : Req → (n-g : Names-g) → ent 𝓤 (mean 𝓤 H A (Refs-g n-g ⊛ Tokens-g n-g ⊛ ‵ (MutSlice (named 1) κ-out u8 .own (record { ptr = (b-out, o-out); name = γ-out; now = out }) (sliceVal (b-out, o-out) (length out) ∷ [])) ⊛ ‵ (flft κ-out q-out))) (Core 𝓤 H A at-mem run .pre (to-core n-g))
   goes-to-core pre n-g =

@@ -16,7 +16,7 @@ use prog.Wp.{Heap, Calls, Loops, WpFn, Tables}
 use ghost.Atoms.{Atoms}
 use contract.Monad.{Fun, fact}
 use contract.Running.{givenOf, tables, tablesOf}
-use types.Kit.{Given, Item, ‵, raw, some, later, mean, _⊛_, ⋆, _$_, _∵_, !, qed, by, move, keep, drop, use1, split, join, pick, rewrite, fsplit, fsplit3, fjoin, fjoin3, feqI, suffices, frame, await, updating, now as at-once, show, done}
+use types.Kit.{Given, Item, ‵, raw, some, later, mean, _⊛_, ⋆, _$_, _∵_, !, qed, by, move, keep, drop, use1, use2, split, join, pick, rewrite, fsplit, fsplit3, fjoin, fjoin3, feqI, suffices, frame, await, updating, now as at-once, show, done}
 use types.Run.{look, init, forget, stop, hop, fld, from, load, addr, and-then, no-more, assigns, land, returns, enter, alloc1, alloc0, params1, pass1, pass0, free1, free0}
 use types.Mut.{open-ref, close-ref}
 use types.SemTy.{Body}
@@ -152,16 +152,16 @@ module _ {M : Type 1} (𝓤 : URA M) (H : Heap 𝓤) (A : Atoms 𝓤) (W : Given
   lend-g : ent 𝓤 (mean 𝓤 H A (‵ (fobs γ-g (Group.the-row .coded .code g)) ⊛ ‵ (fbor κ-g (Body (mem Group.the-row) b-g o-g γ-g)) ⊛ ‵ (flft κ-g q-g))) (mean 𝓤 H A (later (some (λ (n-g : Names-g). Refs-g n-g ⊛ (Tokens-g n-g ⊛ Kept-g n-g)))))
   lend-g =
       qed W ((‵ (fobs γ-g (Group.the-row .coded .code g)) ⊛ ‵ (fbor κ-g (Body (mem Group.the-row) b-g o-g γ-g)) ⊛ ‵ (flft κ-g q-g)) ∷ []) ∵
-      updating ! $ split ! $ move ! (1 ∷ []) $ split ! $ move ! (2 ∷ 0 ∷ 1 ∷ []) $ open-ref ! tt (mem Group.the-row) {x = g} {b = b-g} {o = o-g} $ use1 W (‵ (partAt (Array u16 64) fullShare (g .number) b-g (o-g + 0)) ⊛ ‵ (partAt (Array u8 64) fullShare (g .ints) b-g (o-g + 128)) ⊛ ‵ (partAt (Array u8 64) fullShare (g .exts) b-g (o-g + 192)) ⊛ ‵ (partAt (Array u8 32768) fullShare (g .accounts) b-g (o-g + 256)) ⊛ ‵ (partAt (Array u8 1024) fullShare (g .home) b-g (o-g + 33024)) ⊛ ‵ (partAt (Array u16 1024) fullShare (g .owner) b-g (o-g + 34048)) ⊛ ‵ (partAt (Array u8 1024) fullShare (g .kind) b-g (o-g + 36096)) ⊛ ‵ (partAt (Array u8 1024) fullShare (g .form) b-g (o-g + 37120)) ⊛ ‵ (partAt (Array u64 1024) fullShare (g .time) b-g (o-g + 38144)) ⊛ ‵ (partAt (Array u8 32768) fullShare (g .address) b-g (o-g + 46336)) ⊛ ‵ (partAt (Array u8 32768) fullShare (g .hash) b-g (o-g + 79104)) ⊛ ‵ (partAt (Array u32 1088) fullShare (g .buckets) b-g (o-g + 111872)) ⊛ ‵ (partAt (Array u64 16) fullShare (g .numbers) b-g (o-g + 116224)) ⊛ raw (GroupBack 𝓤 H A b-g o-g)) (group-apart 𝓤 H A W g b-g o-g) $ split ! $ move ! (1 ∷ []) $ split ! $ move ! (1 ∷ []) $ split ! $ move ! (1 ∷ []) $ split ! $ move ! (1 ∷ []) $ split ! $ move ! (1 ∷ []) $ split ! $ move ! (1 ∷ []) $ split ! $ move ! (1 ∷ []) $ split ! $ move ! (1 ∷ []) $ split ! $ move ! (1 ∷ []) $ split ! $ move ! (1 ∷ []) $ split ! $ move ! (1 ∷ []) $ split ! $ move ! (1 ∷ []) $ split ! $
-      lft-new ! tt (λ ν0. move ! (11 ∷ []) $ use1 W (later (some (λ (δ0 : GName). ‵ (ShrRef (named 0) (ν0 ∷ []) (Array u8 32768) .own (x0 (δ0)) (vptr b-g (o-g + 256) ∷ [])) ⊛ ‵ (flent (ν0 ∷ []) (partAt (Array u8 32768) fullShare (g .accounts) b-g (o-g + 256)))))) (lends-shr 𝓤 H A W (Array u8 32768) (named 0) (ν0 ∷ []) fullShare (g .accounts) b-g (o-g + 256)) $ await ! tt $ pick ! (λ δ0. split ! $
-      lft-new ! tt (λ ν1. move ! (12 ∷ []) $ use1 W (later (some (λ (δ1 : GName). ‵ (ShrRef (named 1) (ν1 ∷ []) (Array u16 1024) .own (x1 (δ1)) (vptr b-g (o-g + 34048) ∷ [])) ⊛ ‵ (flent (ν1 ∷ []) (partAt (Array u16 1024) fullShare (g .owner) b-g (o-g + 34048)))))) (lends-shr 𝓤 H A W (Array u16 1024) (named 1) (ν1 ∷ []) fullShare (g .owner) b-g (o-g + 34048)) $ await ! tt $ pick ! (λ δ1. split ! $
-      lft-new ! tt (λ ν2. move ! (14 ∷ []) $ use1 W (later (some (λ (δ2 : GName). ‵ (ShrRef (named 2) (ν2 ∷ []) (Array u8 1024) .own (x2 (δ2)) (vptr b-g (o-g + 36096) ∷ [])) ⊛ ‵ (flent (ν2 ∷ []) (partAt (Array u8 1024) fullShare (g .kind) b-g (o-g + 36096)))))) (lends-shr 𝓤 H A W (Array u8 1024) (named 2) (ν2 ∷ []) fullShare (g .kind) b-g (o-g + 36096)) $ await ! tt $ pick ! (λ δ2. split ! $
-      lft-new ! tt (λ ν3. move ! (16 ∷ []) $ use1 W (later (some (λ (δ3 : GName). ‵ (ShrRef (named 3) (ν3 ∷ []) (Array u8 1024) .own (x3 (δ3)) (vptr b-g (o-g + 37120) ∷ [])) ⊛ ‵ (flent (ν3 ∷ []) (partAt (Array u8 1024) fullShare (g .form) b-g (o-g + 37120)))))) (lends-shr 𝓤 H A W (Array u8 1024) (named 3) (ν3 ∷ []) fullShare (g .form) b-g (o-g + 37120)) $ await ! tt $ pick ! (λ δ3. split ! $
-      lft-new ! tt (λ ν4. move ! (18 ∷ []) $ use1 W (later (some (λ (δ4 : GName). ‵ (ShrRef (named 4) (ν4 ∷ []) (Array u64 1024) .own (x4 (δ4)) (vptr b-g (o-g + 38144) ∷ [])) ⊛ ‵ (flent (ν4 ∷ []) (partAt (Array u64 1024) fullShare (g .time) b-g (o-g + 38144)))))) (lends-shr 𝓤 H A W (Array u64 1024) (named 4) (ν4 ∷ []) fullShare (g .time) b-g (o-g + 38144)) $ await ! tt $ pick ! (λ δ4. split ! $
-      lft-new ! tt (λ ν5. move ! (20 ∷ []) $ use1 W (later (some (λ (δ5 : GName). ‵ (ShrRef (named 5) (ν5 ∷ []) (Array u8 32768) .own (x5 (δ5)) (vptr b-g (o-g + 46336) ∷ [])) ⊛ ‵ (flent (ν5 ∷ []) (partAt (Array u8 32768) fullShare (g .address) b-g (o-g + 46336)))))) (lends-shr 𝓤 H A W (Array u8 32768) (named 5) (ν5 ∷ []) fullShare (g .address) b-g (o-g + 46336)) $ await ! tt $ pick ! (λ δ5. split ! $
-      lft-new ! tt (λ ν6. move ! (22 ∷ []) $ use1 W (later (some (λ (δ6 : GName). ‵ (ShrRef (named 6) (ν6 ∷ []) (Array u8 32768) .own (x6 (δ6)) (vptr b-g (o-g + 79104) ∷ [])) ⊛ ‵ (flent (ν6 ∷ []) (partAt (Array u8 32768) fullShare (g .hash) b-g (o-g + 79104)))))) (lends-shr 𝓤 H A W (Array u8 32768) (named 6) (ν6 ∷ []) fullShare (g .hash) b-g (o-g + 79104)) $ await ! tt $ pick ! (λ δ6. split ! $
+      updating ! $ split ! $ move ! (1 ∷ []) $ split ! $ move ! (2 ∷ 0 ∷ 1 ∷ []) $ open-ref ! tt (mem Group.the-row) {x = g} {b = b-g} {o = o-g} $ use1 W ((‵ (partAt (Array u16 64) fullShare (g .number) b-g (o-g + 0)) ⊛ ‵ (partAt (Array u8 64) fullShare (g .ints) b-g (o-g + 128)) ⊛ ‵ (partAt (Array u8 64) fullShare (g .exts) b-g (o-g + 192)) ⊛ ‵ (partAt (Array u8 32768) fullShare (g .accounts) b-g (o-g + 256)) ⊛ ‵ (partAt (Array u8 1024) fullShare (g .home) b-g (o-g + 33024)) ⊛ ‵ (partAt (Array u16 1024) fullShare (g .owner) b-g (o-g + 34048)) ⊛ ‵ (partAt (Array u8 1024) fullShare (g .kind) b-g (o-g + 36096)) ⊛ ‵ (partAt (Array u8 1024) fullShare (g .form) b-g (o-g + 37120)) ⊛ ‵ (partAt (Array u64 1024) fullShare (g .time) b-g (o-g + 38144)) ⊛ ‵ (partAt (Array u8 32768) fullShare (g .address) b-g (o-g + 46336)) ⊛ ‵ (partAt (Array u8 32768) fullShare (g .hash) b-g (o-g + 79104)) ⊛ ‵ (partAt (Array u32 1088) fullShare (g .buckets) b-g (o-g + 111872)) ⊛ ‵ (partAt (Array u64 16) fullShare (g .numbers) b-g (o-g + 116224)) ⊛ ‵ (ftrue)) ⊛ raw (GroupBack 𝓤 H A b-g o-g)) (group-apart 𝓤 H A W g b-g o-g) $ split ! $ split ! $ move ! (1 ∷ []) $ split ! $ move ! (1 ∷ []) $ split ! $ move ! (1 ∷ []) $ split ! $ move ! (1 ∷ []) $ split ! $ move ! (1 ∷ []) $ split ! $ move ! (1 ∷ []) $ split ! $ move ! (1 ∷ []) $ split ! $ move ! (1 ∷ []) $ split ! $ move ! (1 ∷ []) $ split ! $ move ! (1 ∷ []) $ split ! $ move ! (1 ∷ []) $ split ! $ move ! (1 ∷ []) $ split ! $ move ! (1 ∷ []) $ drop ! $
+      lft-new ! tt (λ ν0. move ! (10 ∷ []) $ use1 W (later (some (λ (δ0 : GName). ‵ (ShrRef (named 0) (ν0 ∷ []) (Array u8 32768) .own (x0 (δ0)) (vptr b-g (o-g + 256) ∷ [])) ⊛ ‵ (flent (ν0 ∷ []) (partAt (Array u8 32768) fullShare (g .accounts) b-g (o-g + 256)))))) (lends-shr 𝓤 H A W (Array u8 32768) (named 0) (ν0 ∷ []) fullShare (g .accounts) b-g (o-g + 256)) $ await ! tt $ pick ! (λ δ0. split ! $
+      lft-new ! tt (λ ν1. move ! (11 ∷ []) $ use1 W (later (some (λ (δ1 : GName). ‵ (ShrRef (named 1) (ν1 ∷ []) (Array u16 1024) .own (x1 (δ1)) (vptr b-g (o-g + 34048) ∷ [])) ⊛ ‵ (flent (ν1 ∷ []) (partAt (Array u16 1024) fullShare (g .owner) b-g (o-g + 34048)))))) (lends-shr 𝓤 H A W (Array u16 1024) (named 1) (ν1 ∷ []) fullShare (g .owner) b-g (o-g + 34048)) $ await ! tt $ pick ! (λ δ1. split ! $
+      lft-new ! tt (λ ν2. move ! (13 ∷ []) $ use1 W (later (some (λ (δ2 : GName). ‵ (ShrRef (named 2) (ν2 ∷ []) (Array u8 1024) .own (x2 (δ2)) (vptr b-g (o-g + 36096) ∷ [])) ⊛ ‵ (flent (ν2 ∷ []) (partAt (Array u8 1024) fullShare (g .kind) b-g (o-g + 36096)))))) (lends-shr 𝓤 H A W (Array u8 1024) (named 2) (ν2 ∷ []) fullShare (g .kind) b-g (o-g + 36096)) $ await ! tt $ pick ! (λ δ2. split ! $
+      lft-new ! tt (λ ν3. move ! (15 ∷ []) $ use1 W (later (some (λ (δ3 : GName). ‵ (ShrRef (named 3) (ν3 ∷ []) (Array u8 1024) .own (x3 (δ3)) (vptr b-g (o-g + 37120) ∷ [])) ⊛ ‵ (flent (ν3 ∷ []) (partAt (Array u8 1024) fullShare (g .form) b-g (o-g + 37120)))))) (lends-shr 𝓤 H A W (Array u8 1024) (named 3) (ν3 ∷ []) fullShare (g .form) b-g (o-g + 37120)) $ await ! tt $ pick ! (λ δ3. split ! $
+      lft-new ! tt (λ ν4. move ! (17 ∷ []) $ use1 W (later (some (λ (δ4 : GName). ‵ (ShrRef (named 4) (ν4 ∷ []) (Array u64 1024) .own (x4 (δ4)) (vptr b-g (o-g + 38144) ∷ [])) ⊛ ‵ (flent (ν4 ∷ []) (partAt (Array u64 1024) fullShare (g .time) b-g (o-g + 38144)))))) (lends-shr 𝓤 H A W (Array u64 1024) (named 4) (ν4 ∷ []) fullShare (g .time) b-g (o-g + 38144)) $ await ! tt $ pick ! (λ δ4. split ! $
+      lft-new ! tt (λ ν5. move ! (19 ∷ []) $ use1 W (later (some (λ (δ5 : GName). ‵ (ShrRef (named 5) (ν5 ∷ []) (Array u8 32768) .own (x5 (δ5)) (vptr b-g (o-g + 46336) ∷ [])) ⊛ ‵ (flent (ν5 ∷ []) (partAt (Array u8 32768) fullShare (g .address) b-g (o-g + 46336)))))) (lends-shr 𝓤 H A W (Array u8 32768) (named 5) (ν5 ∷ []) fullShare (g .address) b-g (o-g + 46336)) $ await ! tt $ pick ! (λ δ5. split ! $
+      lft-new ! tt (λ ν6. move ! (21 ∷ []) $ use1 W (later (some (λ (δ6 : GName). ‵ (ShrRef (named 6) (ν6 ∷ []) (Array u8 32768) .own (x6 (δ6)) (vptr b-g (o-g + 79104) ∷ [])) ⊛ ‵ (flent (ν6 ∷ []) (partAt (Array u8 32768) fullShare (g .hash) b-g (o-g + 79104)))))) (lends-shr 𝓤 H A W (Array u8 32768) (named 6) (ν6 ∷ []) fullShare (g .hash) b-g (o-g + 79104)) $ await ! tt $ pick ! (λ δ6. split ! $
       lft-new ! tt (λ ν7. move ! (22 ∷ []) $ use1 W (later (some (λ (δ7 : GName). ‵ (ShrRef (named 7) (ν7 ∷ []) (Array u64 16) .own (x7 (δ7)) (vptr b-g (o-g + 116224) ∷ [])) ⊛ ‵ (flent (ν7 ∷ []) (partAt (Array u64 16) fullShare (g .numbers) b-g (o-g + 116224)))))) (lends-shr 𝓤 H A W (Array u64 16) (named 7) (ν7 ∷ []) fullShare (g .numbers) b-g (o-g + 116224)) $ await ! tt $ pick ! (λ δ7. split ! $
-      at-once ! $ show ! (λ (n-g : Names-g). mean 𝓤 H A (Refs-g n-g ⊛ (Tokens-g n-g ⊛ Kept-g n-g))) (record { ν0 = ν0; ν1 = ν1; ν2 = ν2; ν3 = ν3; ν4 = ν4; ν5 = ν5; ν6 = ν6; ν7 = ν7; δ0 = δ0; δ1 = δ1; δ2 = δ2; δ3 = δ3; δ4 = δ4; δ5 = δ5; δ6 = δ6; δ7 = δ7 }) $ move ! (31 ∷ 32 ∷ []) $ join ! $ move ! (31 ∷ 0 ∷ []) $ join ! $ move ! (25 ∷ 0 ∷ []) $ join ! $ move ! (25 ∷ 0 ∷ []) $ join ! $ move ! (25 ∷ 0 ∷ []) $ join ! $ move ! (25 ∷ 0 ∷ []) $ join ! $ move ! (25 ∷ 0 ∷ []) $ join ! $ move ! (25 ∷ 0 ∷ []) $ join ! $ move ! (2 ∷ 0 ∷ []) $ join ! $ move ! (4 ∷ 0 ∷ []) $ join ! $ move ! (6 ∷ 0 ∷ []) $ join ! $ move ! (8 ∷ 0 ∷ []) $ join ! $ move ! (10 ∷ 0 ∷ []) $ join ! $ move ! (12 ∷ 0 ∷ []) $ join ! $ move ! (14 ∷ 0 ∷ []) $ join ! $ move ! (16 ∷ 0 ∷ []) $ join ! $ move ! (4 ∷ 2 ∷ []) $ join ! $ move ! (5 ∷ 0 ∷ []) $ join ! $ move ! (6 ∷ 0 ∷ []) $ join ! $ move ! (7 ∷ 0 ∷ []) $ join ! $ move ! (8 ∷ 0 ∷ []) $ join ! $ move ! (9 ∷ 0 ∷ []) $ join ! $ move ! (10 ∷ 0 ∷ []) $ join ! $ move ! (3 ∷ 2 ∷ []) $ join ! $ move ! (3 ∷ 0 ∷ []) $ join ! $ move ! (3 ∷ 0 ∷ []) $ join ! $ move ! (3 ∷ 0 ∷ []) $ join ! $ move ! (3 ∷ 0 ∷ []) $ join ! $ move ! (3 ∷ 0 ∷ []) $ join ! $ move ! (3 ∷ 0 ∷ []) $ join ! $ move ! (1 ∷ 2 ∷ []) $ join ! $ move ! (1 ∷ 0 ∷ []) $ join ! $ done !))))))))))))))))
+      at-once ! $ show ! (λ (n-g : Names-g). mean 𝓤 H A (Refs-g n-g ⊛ (Tokens-g n-g ⊛ Kept-g n-g))) (record { ν0 = ν0; ν1 = ν1; ν2 = ν2; ν3 = ν3; ν4 = ν4; ν5 = ν5; ν6 = ν6; ν7 = ν7; δ0 = δ0; δ1 = δ1; δ2 = δ2; δ3 = δ3; δ4 = δ4; δ5 = δ5; δ6 = δ6; δ7 = δ7 }) $ move ! (31 ∷ 32 ∷ []) $ join ! $ move ! (31 ∷ 0 ∷ []) $ join ! $ move ! (30 ∷ 0 ∷ []) $ join ! $ move ! (25 ∷ 0 ∷ []) $ join ! $ move ! (25 ∷ 0 ∷ []) $ join ! $ move ! (25 ∷ 0 ∷ []) $ join ! $ move ! (25 ∷ 0 ∷ []) $ join ! $ move ! (25 ∷ 0 ∷ []) $ join ! $ move ! (2 ∷ 0 ∷ []) $ join ! $ move ! (4 ∷ 0 ∷ []) $ join ! $ move ! (6 ∷ 0 ∷ []) $ join ! $ move ! (8 ∷ 0 ∷ []) $ join ! $ move ! (10 ∷ 0 ∷ []) $ join ! $ move ! (12 ∷ 0 ∷ []) $ join ! $ move ! (14 ∷ 0 ∷ []) $ join ! $ move ! (16 ∷ 0 ∷ []) $ join ! $ move ! (4 ∷ 2 ∷ []) $ join ! $ move ! (5 ∷ 0 ∷ []) $ join ! $ move ! (6 ∷ 0 ∷ []) $ join ! $ move ! (7 ∷ 0 ∷ []) $ join ! $ move ! (8 ∷ 0 ∷ []) $ join ! $ move ! (9 ∷ 0 ∷ []) $ join ! $ move ! (10 ∷ 0 ∷ []) $ join ! $ move ! (3 ∷ 2 ∷ []) $ join ! $ move ! (3 ∷ 0 ∷ []) $ join ! $ move ! (3 ∷ 0 ∷ []) $ join ! $ move ! (3 ∷ 0 ∷ []) $ join ! $ move ! (3 ∷ 0 ∷ []) $ join ! $ move ! (3 ∷ 0 ∷ []) $ join ! $ move ! (3 ∷ 0 ∷ []) $ join ! $ move ! (1 ∷ 2 ∷ []) $ join ! $ move ! (1 ∷ 0 ∷ []) $ join ! $ done !))))))))))))))))
 
   back-g : (n-g : Names-g) → ent 𝓤 (mean 𝓤 H A (Kept-g n-g ⊛ (Tokens-g n-g))) (mean 𝓤 H A (later (‵ (fobs γ-g (Group.the-row .coded .code (g))) ⊛ ‵ (fbor κ-g (Body (mem Group.the-row) b-g o-g γ-g)) ⊛ ‵ (flft κ-g q-g))))
   back-g n-g =
@@ -175,7 +175,7 @@ module _ {M : Type 1} (𝓤 : URA M) (H : Heap 𝓤) (A : Atoms 𝓤) (W : Given
       move ! (7 ∷ []) $ lft-end ! tt $ move ! (0 ∷ 19 ∷ []) $ lent-back ! tt $
       move ! (6 ∷ []) $ lft-end ! tt $ move ! (0 ∷ 18 ∷ []) $ lent-back ! tt $
       move ! (7 ∷ []) $ lft-end ! tt $ move ! (0 ∷ 17 ∷ []) $ lent-back ! tt $
-      move ! (0 ∷ 11 ∷ []) $ join ! $ move ! (11 ∷ 0 ∷ []) $ join ! $ move ! (1 ∷ 0 ∷ []) $ join ! $ move ! (1 ∷ 0 ∷ []) $ join ! $ move ! (1 ∷ 0 ∷ []) $ join ! $ move ! (1 ∷ 0 ∷ []) $ join ! $ move ! (1 ∷ 0 ∷ []) $ join ! $ move ! (1 ∷ 0 ∷ []) $ join ! $ move ! (5 ∷ 0 ∷ []) $ join ! $ move ! (1 ∷ 0 ∷ []) $ join ! $ move ! (4 ∷ 0 ∷ []) $ join ! $ move ! (4 ∷ 0 ∷ []) $ join ! $ move ! (4 ∷ 0 ∷ []) $ join ! $ use1 W (‵ (partAt Group.the-row fullShare (g) b-g o-g)) (group-together 𝓤 H A W (g) b-g o-g) $ move ! (0 ∷ 3 ∷ 1 ∷ 2 ∷ []) $ close-ref ! tt (mem Group.the-row) (g) {b = b-g} {o = o-g} $ at-once ! $ move ! (1 ∷ 2 ∷ []) $ join ! $ move ! (1 ∷ 0 ∷ []) $ join ! $ done !
+      nothing ! $ move ! (1 ∷ 0 ∷ []) $ join ! $ move ! (12 ∷ 0 ∷ []) $ join ! $ move ! (1 ∷ 0 ∷ []) $ join ! $ move ! (1 ∷ 0 ∷ []) $ join ! $ move ! (1 ∷ 0 ∷ []) $ join ! $ move ! (1 ∷ 0 ∷ []) $ join ! $ move ! (1 ∷ 0 ∷ []) $ join ! $ move ! (1 ∷ 0 ∷ []) $ join ! $ move ! (6 ∷ 0 ∷ []) $ join ! $ move ! (1 ∷ 0 ∷ []) $ join ! $ move ! (5 ∷ 0 ∷ []) $ join ! $ move ! (5 ∷ 0 ∷ []) $ join ! $ move ! (5 ∷ 0 ∷ []) $ join ! $ move ! (0 ∷ 4 ∷ []) $ use2 W (‵ (partAt Group.the-row fullShare (g) b-g o-g)) (group-together 𝓤 H A W (g) b-g o-g) $ move ! (0 ∷ 3 ∷ 1 ∷ 2 ∷ []) $ close-ref ! tt (mem Group.the-row) (g) {b = b-g} {o = o-g} $ at-once ! $ move ! (1 ∷ 2 ∷ []) $ join ! $ move ! (1 ∷ 0 ∷ []) $ join ! $ done !
 
   goes-to-core : Req → (n-g : Names-g) → ent 𝓤 (mean 𝓤 H A (Refs-g n-g ⊛ Tokens-g n-g ⊛ ‵ (ShrRef (named 1) κ-name (Array u8 32) .own (record { ptr = (b-name, o-name); name = γ-name; now = name }) (vptr b-name o-name ∷ [])) ⊛ ‵ (flft κ-name q-name) ⊛ ‵ (MutRef (named 2) κ-facts (Array u64 4) .own (record { ptr = (b-facts, o-facts); name = γ-facts; now = facts }) (vptr b-facts o-facts ∷ [])) ⊛ ‵ (flft κ-facts q-facts) ⊛ ‵ (MutRef (named 3) κ-address (Array u8 32) .own (record { ptr = (b-address, o-address); name = γ-address; now = address }) (vptr b-address o-address ∷ [])) ⊛ ‵ (flft κ-address q-address) ⊛ ‵ (MutRef (named 4) κ-hash (Array u8 32) .own (record { ptr = (b-hash, o-hash); name = γ-hash; now = hash }) (vptr b-hash o-hash ∷ [])) ⊛ ‵ (flft κ-hash q-hash))) (Core 𝓤 H A at-mem run .pre (to-core n-g))
   goes-to-core pre n-g =

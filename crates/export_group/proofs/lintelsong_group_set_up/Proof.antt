@@ -16,7 +16,7 @@ use prog.Wp.{Heap, Calls, Loops, WpFn, Tables}
 use ghost.Atoms.{Atoms}
 use contract.Monad.{Fun, fact}
 use contract.Running.{givenOf, tables, tablesOf}
-use types.Kit.{Given, Item, ‵, raw, some, later, mean, _⊛_, ⋆, _$_, _∵_, !, qed, by, move, keep, drop, use1, use3, split, join, pick, rewrite, fsplit, fsplit3, fjoin, fjoin3, feqI, suffices, frame, await, updating, now as at-once, show, done}
+use types.Kit.{Given, Item, ‵, raw, some, later, mean, _⊛_, ⋆, _$_, _∵_, !, qed, by, move, keep, drop, use1, use2, use3, split, join, pick, rewrite, fsplit, fsplit3, fjoin, fjoin3, feqI, suffices, frame, await, updating, now as at-once, show, done}
 use types.Run.{look, init, forget, stop, hop, fld, from, load, addr, and-then, no-more, assigns, land, returns, enter, alloc1, alloc0, params1, pass1, pass0, free1, free0}
 use types.Mut.{open-ref, close-ref}
 use types.SemTy.{Body}
@@ -175,19 +175,19 @@ module _ {M : Type 1} (𝓤 : URA M) (H : Heap 𝓤) (A : Atoms 𝓤) (W : Given
   lend-g : ent 𝓤 (mean 𝓤 H A (‵ (fobs γ-g (Group.the-row .coded .code g)) ⊛ ‵ (fbor κ-g (Body (mem Group.the-row) b-g o-g γ-g)) ⊛ ‵ (flft κ-g q-g))) (mean 𝓤 H A (later (some (λ (n-g : Names-g). Refs-g n-g ⊛ (Tokens-g n-g ⊛ Kept-g n-g)))))
   lend-g =
       qed W ((‵ (fobs γ-g (Group.the-row .coded .code g)) ⊛ ‵ (fbor κ-g (Body (mem Group.the-row) b-g o-g γ-g)) ⊛ ‵ (flft κ-g q-g)) ∷ []) ∵
-      updating ! $ split ! $ move ! (1 ∷ []) $ split ! $ move ! (2 ∷ 0 ∷ 1 ∷ []) $ open-ref ! tt (mem Group.the-row) {x = g} {b = b-g} {o = o-g} $ use1 W (‵ (partAt (Array u16 64) fullShare (g .number) b-g (o-g + 0)) ⊛ ‵ (partAt (Array u8 64) fullShare (g .ints) b-g (o-g + 128)) ⊛ ‵ (partAt (Array u8 64) fullShare (g .exts) b-g (o-g + 192)) ⊛ ‵ (partAt (Array u8 32768) fullShare (g .accounts) b-g (o-g + 256)) ⊛ ‵ (partAt (Array u8 1024) fullShare (g .home) b-g (o-g + 33024)) ⊛ ‵ (partAt (Array u16 1024) fullShare (g .owner) b-g (o-g + 34048)) ⊛ ‵ (partAt (Array u8 1024) fullShare (g .kind) b-g (o-g + 36096)) ⊛ ‵ (partAt (Array u8 1024) fullShare (g .form) b-g (o-g + 37120)) ⊛ ‵ (partAt (Array u64 1024) fullShare (g .time) b-g (o-g + 38144)) ⊛ ‵ (partAt (Array u8 32768) fullShare (g .address) b-g (o-g + 46336)) ⊛ ‵ (partAt (Array u8 32768) fullShare (g .hash) b-g (o-g + 79104)) ⊛ ‵ (partAt (Array u32 1088) fullShare (g .buckets) b-g (o-g + 111872)) ⊛ ‵ (partAt (Array u64 16) fullShare (g .numbers) b-g (o-g + 116224)) ⊛ raw (GroupBack 𝓤 H A b-g o-g)) (group-apart 𝓤 H A W g b-g o-g) $ split ! $ move ! (1 ∷ []) $ split ! $ move ! (1 ∷ []) $ split ! $ move ! (1 ∷ []) $ split ! $ move ! (1 ∷ []) $ split ! $ move ! (1 ∷ []) $ split ! $ move ! (1 ∷ []) $ split ! $ move ! (1 ∷ []) $ split ! $ move ! (1 ∷ []) $ split ! $ move ! (1 ∷ []) $ split ! $ move ! (1 ∷ []) $ split ! $ move ! (1 ∷ []) $ split ! $ move ! (1 ∷ []) $ split ! $
-      lft-new ! tt (λ ν0. move ! (14 ∷ []) $ use1 W (later (some (λ (δ0 : GName). ‵ (MutRef (named 0) (ν0 ∷ []) (Array u16 64) .own (x0 (δ0)) (vptr b-g (o-g + 0) ∷ [])) ⊛ ‵ (flent (ν0 ∷ []) (Body (mem (Array u16 64)) b-g (o-g + 0) (δ0)))))) (lends-ref 𝓤 H A W (Array u16 64) (named 0) (ν0 ∷ []) (g .number) b-g (o-g + 0)) $ await ! tt $ pick ! (λ δ0. split ! $
-      lft-new ! tt (λ ν1. move ! (16 ∷ []) $ use1 W (later (some (λ (δ1 : GName). ‵ (MutRef (named 1) (ν1 ∷ []) (Array u8 64) .own (x1 (δ1)) (vptr b-g (o-g + 128) ∷ [])) ⊛ ‵ (flent (ν1 ∷ []) (Body (mem (Array u8 64)) b-g (o-g + 128) (δ1)))))) (lends-ref 𝓤 H A W (Array u8 64) (named 1) (ν1 ∷ []) (g .ints) b-g (o-g + 128)) $ await ! tt $ pick ! (λ δ1. split ! $
-      lft-new ! tt (λ ν2. move ! (18 ∷ []) $ use1 W (later (some (λ (δ2 : GName). ‵ (MutRef (named 2) (ν2 ∷ []) (Array u8 64) .own (x2 (δ2)) (vptr b-g (o-g + 192) ∷ [])) ⊛ ‵ (flent (ν2 ∷ []) (Body (mem (Array u8 64)) b-g (o-g + 192) (δ2)))))) (lends-ref 𝓤 H A W (Array u8 64) (named 2) (ν2 ∷ []) (g .exts) b-g (o-g + 192)) $ await ! tt $ pick ! (λ δ2. split ! $
-      lft-new ! tt (λ ν3. move ! (20 ∷ []) $ use1 W (later (some (λ (δ3 : GName). ‵ (MutRef (named 3) (ν3 ∷ []) (Array u8 32768) .own (x3 (δ3)) (vptr b-g (o-g + 256) ∷ [])) ⊛ ‵ (flent (ν3 ∷ []) (Body (mem (Array u8 32768)) b-g (o-g + 256) (δ3)))))) (lends-ref 𝓤 H A W (Array u8 32768) (named 3) (ν3 ∷ []) (g .accounts) b-g (o-g + 256)) $ await ! tt $ pick ! (λ δ3. split ! $
-      lft-new ! tt (λ ν4. move ! (22 ∷ []) $ use1 W (later (some (λ (δ4 : GName). ‵ (MutRef (named 4) (ν4 ∷ []) (Array u8 1024) .own (x4 (δ4)) (vptr b-g (o-g + 33024) ∷ [])) ⊛ ‵ (flent (ν4 ∷ []) (Body (mem (Array u8 1024)) b-g (o-g + 33024) (δ4)))))) (lends-ref 𝓤 H A W (Array u8 1024) (named 4) (ν4 ∷ []) (g .home) b-g (o-g + 33024)) $ await ! tt $ pick ! (λ δ4. split ! $
-      lft-new ! tt (λ ν5. move ! (24 ∷ []) $ use1 W (later (some (λ (δ5 : GName). ‵ (MutRef (named 5) (ν5 ∷ []) (Array u16 1024) .own (x5 (δ5)) (vptr b-g (o-g + 34048) ∷ [])) ⊛ ‵ (flent (ν5 ∷ []) (Body (mem (Array u16 1024)) b-g (o-g + 34048) (δ5)))))) (lends-ref 𝓤 H A W (Array u16 1024) (named 5) (ν5 ∷ []) (g .owner) b-g (o-g + 34048)) $ await ! tt $ pick ! (λ δ5. split ! $
-      lft-new ! tt (λ ν6. move ! (26 ∷ []) $ use1 W (later (some (λ (δ6 : GName). ‵ (MutRef (named 6) (ν6 ∷ []) (Array u8 1024) .own (x6 (δ6)) (vptr b-g (o-g + 36096) ∷ [])) ⊛ ‵ (flent (ν6 ∷ []) (Body (mem (Array u8 1024)) b-g (o-g + 36096) (δ6)))))) (lends-ref 𝓤 H A W (Array u8 1024) (named 6) (ν6 ∷ []) (g .kind) b-g (o-g + 36096)) $ await ! tt $ pick ! (λ δ6. split ! $
-      lft-new ! tt (λ ν7. move ! (28 ∷ []) $ use1 W (later (some (λ (δ7 : GName). ‵ (MutRef (named 7) (ν7 ∷ []) (Array u8 1024) .own (x7 (δ7)) (vptr b-g (o-g + 37120) ∷ [])) ⊛ ‵ (flent (ν7 ∷ []) (Body (mem (Array u8 1024)) b-g (o-g + 37120) (δ7)))))) (lends-ref 𝓤 H A W (Array u8 1024) (named 7) (ν7 ∷ []) (g .form) b-g (o-g + 37120)) $ await ! tt $ pick ! (λ δ7. split ! $
-      lft-new ! tt (λ ν8. move ! (30 ∷ []) $ use1 W (later (some (λ (δ8 : GName). ‵ (MutRef (named 8) (ν8 ∷ []) (Array u64 1024) .own (x8 (δ8)) (vptr b-g (o-g + 38144) ∷ [])) ⊛ ‵ (flent (ν8 ∷ []) (Body (mem (Array u64 1024)) b-g (o-g + 38144) (δ8)))))) (lends-ref 𝓤 H A W (Array u64 1024) (named 8) (ν8 ∷ []) (g .time) b-g (o-g + 38144)) $ await ! tt $ pick ! (λ δ8. split ! $
-      lft-new ! tt (λ ν9. move ! (32 ∷ []) $ use1 W (later (some (λ (δ9 : GName). ‵ (MutRef (named 9) (ν9 ∷ []) (Array u8 32768) .own (x9 (δ9)) (vptr b-g (o-g + 46336) ∷ [])) ⊛ ‵ (flent (ν9 ∷ []) (Body (mem (Array u8 32768)) b-g (o-g + 46336) (δ9)))))) (lends-ref 𝓤 H A W (Array u8 32768) (named 9) (ν9 ∷ []) (g .address) b-g (o-g + 46336)) $ await ! tt $ pick ! (λ δ9. split ! $
-      lft-new ! tt (λ ν10. move ! (34 ∷ []) $ use1 W (later (some (λ (δ10 : GName). ‵ (MutRef (named 10) (ν10 ∷ []) (Array u8 32768) .own (x10 (δ10)) (vptr b-g (o-g + 79104) ∷ [])) ⊛ ‵ (flent (ν10 ∷ []) (Body (mem (Array u8 32768)) b-g (o-g + 79104) (δ10)))))) (lends-ref 𝓤 H A W (Array u8 32768) (named 10) (ν10 ∷ []) (g .hash) b-g (o-g + 79104)) $ await ! tt $ pick ! (λ δ10. split ! $
-      lft-new ! tt (λ ν11. move ! (36 ∷ []) $ use1 W (later (some (λ (δ11 : GName). ‵ (MutRef (named 11) (ν11 ∷ []) (Array u32 1088) .own (x11 (δ11)) (vptr b-g (o-g + 111872) ∷ [])) ⊛ ‵ (flent (ν11 ∷ []) (Body (mem (Array u32 1088)) b-g (o-g + 111872) (δ11)))))) (lends-ref 𝓤 H A W (Array u32 1088) (named 11) (ν11 ∷ []) (g .buckets) b-g (o-g + 111872)) $ await ! tt $ pick ! (λ δ11. split ! $
+      updating ! $ split ! $ move ! (1 ∷ []) $ split ! $ move ! (2 ∷ 0 ∷ 1 ∷ []) $ open-ref ! tt (mem Group.the-row) {x = g} {b = b-g} {o = o-g} $ use1 W ((‵ (partAt (Array u16 64) fullShare (g .number) b-g (o-g + 0)) ⊛ ‵ (partAt (Array u8 64) fullShare (g .ints) b-g (o-g + 128)) ⊛ ‵ (partAt (Array u8 64) fullShare (g .exts) b-g (o-g + 192)) ⊛ ‵ (partAt (Array u8 32768) fullShare (g .accounts) b-g (o-g + 256)) ⊛ ‵ (partAt (Array u8 1024) fullShare (g .home) b-g (o-g + 33024)) ⊛ ‵ (partAt (Array u16 1024) fullShare (g .owner) b-g (o-g + 34048)) ⊛ ‵ (partAt (Array u8 1024) fullShare (g .kind) b-g (o-g + 36096)) ⊛ ‵ (partAt (Array u8 1024) fullShare (g .form) b-g (o-g + 37120)) ⊛ ‵ (partAt (Array u64 1024) fullShare (g .time) b-g (o-g + 38144)) ⊛ ‵ (partAt (Array u8 32768) fullShare (g .address) b-g (o-g + 46336)) ⊛ ‵ (partAt (Array u8 32768) fullShare (g .hash) b-g (o-g + 79104)) ⊛ ‵ (partAt (Array u32 1088) fullShare (g .buckets) b-g (o-g + 111872)) ⊛ ‵ (partAt (Array u64 16) fullShare (g .numbers) b-g (o-g + 116224)) ⊛ ‵ (ftrue)) ⊛ raw (GroupBack 𝓤 H A b-g o-g)) (group-apart 𝓤 H A W g b-g o-g) $ split ! $ split ! $ move ! (1 ∷ []) $ split ! $ move ! (1 ∷ []) $ split ! $ move ! (1 ∷ []) $ split ! $ move ! (1 ∷ []) $ split ! $ move ! (1 ∷ []) $ split ! $ move ! (1 ∷ []) $ split ! $ move ! (1 ∷ []) $ split ! $ move ! (1 ∷ []) $ split ! $ move ! (1 ∷ []) $ split ! $ move ! (1 ∷ []) $ split ! $ move ! (1 ∷ []) $ split ! $ move ! (1 ∷ []) $ split ! $ move ! (1 ∷ []) $ drop ! $
+      lft-new ! tt (λ ν0. move ! (13 ∷ []) $ use1 W (later (some (λ (δ0 : GName). ‵ (MutRef (named 0) (ν0 ∷ []) (Array u16 64) .own (x0 (δ0)) (vptr b-g (o-g + 0) ∷ [])) ⊛ ‵ (flent (ν0 ∷ []) (Body (mem (Array u16 64)) b-g (o-g + 0) (δ0)))))) (lends-ref 𝓤 H A W (Array u16 64) (named 0) (ν0 ∷ []) (g .number) b-g (o-g + 0)) $ await ! tt $ pick ! (λ δ0. split ! $
+      lft-new ! tt (λ ν1. move ! (15 ∷ []) $ use1 W (later (some (λ (δ1 : GName). ‵ (MutRef (named 1) (ν1 ∷ []) (Array u8 64) .own (x1 (δ1)) (vptr b-g (o-g + 128) ∷ [])) ⊛ ‵ (flent (ν1 ∷ []) (Body (mem (Array u8 64)) b-g (o-g + 128) (δ1)))))) (lends-ref 𝓤 H A W (Array u8 64) (named 1) (ν1 ∷ []) (g .ints) b-g (o-g + 128)) $ await ! tt $ pick ! (λ δ1. split ! $
+      lft-new ! tt (λ ν2. move ! (17 ∷ []) $ use1 W (later (some (λ (δ2 : GName). ‵ (MutRef (named 2) (ν2 ∷ []) (Array u8 64) .own (x2 (δ2)) (vptr b-g (o-g + 192) ∷ [])) ⊛ ‵ (flent (ν2 ∷ []) (Body (mem (Array u8 64)) b-g (o-g + 192) (δ2)))))) (lends-ref 𝓤 H A W (Array u8 64) (named 2) (ν2 ∷ []) (g .exts) b-g (o-g + 192)) $ await ! tt $ pick ! (λ δ2. split ! $
+      lft-new ! tt (λ ν3. move ! (19 ∷ []) $ use1 W (later (some (λ (δ3 : GName). ‵ (MutRef (named 3) (ν3 ∷ []) (Array u8 32768) .own (x3 (δ3)) (vptr b-g (o-g + 256) ∷ [])) ⊛ ‵ (flent (ν3 ∷ []) (Body (mem (Array u8 32768)) b-g (o-g + 256) (δ3)))))) (lends-ref 𝓤 H A W (Array u8 32768) (named 3) (ν3 ∷ []) (g .accounts) b-g (o-g + 256)) $ await ! tt $ pick ! (λ δ3. split ! $
+      lft-new ! tt (λ ν4. move ! (21 ∷ []) $ use1 W (later (some (λ (δ4 : GName). ‵ (MutRef (named 4) (ν4 ∷ []) (Array u8 1024) .own (x4 (δ4)) (vptr b-g (o-g + 33024) ∷ [])) ⊛ ‵ (flent (ν4 ∷ []) (Body (mem (Array u8 1024)) b-g (o-g + 33024) (δ4)))))) (lends-ref 𝓤 H A W (Array u8 1024) (named 4) (ν4 ∷ []) (g .home) b-g (o-g + 33024)) $ await ! tt $ pick ! (λ δ4. split ! $
+      lft-new ! tt (λ ν5. move ! (23 ∷ []) $ use1 W (later (some (λ (δ5 : GName). ‵ (MutRef (named 5) (ν5 ∷ []) (Array u16 1024) .own (x5 (δ5)) (vptr b-g (o-g + 34048) ∷ [])) ⊛ ‵ (flent (ν5 ∷ []) (Body (mem (Array u16 1024)) b-g (o-g + 34048) (δ5)))))) (lends-ref 𝓤 H A W (Array u16 1024) (named 5) (ν5 ∷ []) (g .owner) b-g (o-g + 34048)) $ await ! tt $ pick ! (λ δ5. split ! $
+      lft-new ! tt (λ ν6. move ! (25 ∷ []) $ use1 W (later (some (λ (δ6 : GName). ‵ (MutRef (named 6) (ν6 ∷ []) (Array u8 1024) .own (x6 (δ6)) (vptr b-g (o-g + 36096) ∷ [])) ⊛ ‵ (flent (ν6 ∷ []) (Body (mem (Array u8 1024)) b-g (o-g + 36096) (δ6)))))) (lends-ref 𝓤 H A W (Array u8 1024) (named 6) (ν6 ∷ []) (g .kind) b-g (o-g + 36096)) $ await ! tt $ pick ! (λ δ6. split ! $
+      lft-new ! tt (λ ν7. move ! (27 ∷ []) $ use1 W (later (some (λ (δ7 : GName). ‵ (MutRef (named 7) (ν7 ∷ []) (Array u8 1024) .own (x7 (δ7)) (vptr b-g (o-g + 37120) ∷ [])) ⊛ ‵ (flent (ν7 ∷ []) (Body (mem (Array u8 1024)) b-g (o-g + 37120) (δ7)))))) (lends-ref 𝓤 H A W (Array u8 1024) (named 7) (ν7 ∷ []) (g .form) b-g (o-g + 37120)) $ await ! tt $ pick ! (λ δ7. split ! $
+      lft-new ! tt (λ ν8. move ! (29 ∷ []) $ use1 W (later (some (λ (δ8 : GName). ‵ (MutRef (named 8) (ν8 ∷ []) (Array u64 1024) .own (x8 (δ8)) (vptr b-g (o-g + 38144) ∷ [])) ⊛ ‵ (flent (ν8 ∷ []) (Body (mem (Array u64 1024)) b-g (o-g + 38144) (δ8)))))) (lends-ref 𝓤 H A W (Array u64 1024) (named 8) (ν8 ∷ []) (g .time) b-g (o-g + 38144)) $ await ! tt $ pick ! (λ δ8. split ! $
+      lft-new ! tt (λ ν9. move ! (31 ∷ []) $ use1 W (later (some (λ (δ9 : GName). ‵ (MutRef (named 9) (ν9 ∷ []) (Array u8 32768) .own (x9 (δ9)) (vptr b-g (o-g + 46336) ∷ [])) ⊛ ‵ (flent (ν9 ∷ []) (Body (mem (Array u8 32768)) b-g (o-g + 46336) (δ9)))))) (lends-ref 𝓤 H A W (Array u8 32768) (named 9) (ν9 ∷ []) (g .address) b-g (o-g + 46336)) $ await ! tt $ pick ! (λ δ9. split ! $
+      lft-new ! tt (λ ν10. move ! (33 ∷ []) $ use1 W (later (some (λ (δ10 : GName). ‵ (MutRef (named 10) (ν10 ∷ []) (Array u8 32768) .own (x10 (δ10)) (vptr b-g (o-g + 79104) ∷ [])) ⊛ ‵ (flent (ν10 ∷ []) (Body (mem (Array u8 32768)) b-g (o-g + 79104) (δ10)))))) (lends-ref 𝓤 H A W (Array u8 32768) (named 10) (ν10 ∷ []) (g .hash) b-g (o-g + 79104)) $ await ! tt $ pick ! (λ δ10. split ! $
+      lft-new ! tt (λ ν11. move ! (35 ∷ []) $ use1 W (later (some (λ (δ11 : GName). ‵ (MutRef (named 11) (ν11 ∷ []) (Array u32 1088) .own (x11 (δ11)) (vptr b-g (o-g + 111872) ∷ [])) ⊛ ‵ (flent (ν11 ∷ []) (Body (mem (Array u32 1088)) b-g (o-g + 111872) (δ11)))))) (lends-ref 𝓤 H A W (Array u32 1088) (named 11) (ν11 ∷ []) (g .buckets) b-g (o-g + 111872)) $ await ! tt $ pick ! (λ δ11. split ! $
       lft-new ! tt (λ ν12. move ! (37 ∷ []) $ use1 W (later (some (λ (δ12 : GName). ‵ (MutRef (named 12) (ν12 ∷ []) (Array u64 16) .own (x12 (δ12)) (vptr b-g (o-g + 116224) ∷ [])) ⊛ ‵ (flent (ν12 ∷ []) (Body (mem (Array u64 16)) b-g (o-g + 116224) (δ12)))))) (lends-ref 𝓤 H A W (Array u64 16) (named 12) (ν12 ∷ []) (g .numbers) b-g (o-g + 116224)) $ await ! tt $ pick ! (λ δ12. split ! $
       at-once ! $ show ! (λ (n-g : Names-g). mean 𝓤 H A (Refs-g n-g ⊛ (Tokens-g n-g ⊛ Kept-g n-g))) (record { ν0 = ν0; ν1 = ν1; ν2 = ν2; ν3 = ν3; ν4 = ν4; ν5 = ν5; ν6 = ν6; ν7 = ν7; ν8 = ν8; ν9 = ν9; ν10 = ν10; ν11 = ν11; ν12 = ν12; δ0 = δ0; δ1 = δ1; δ2 = δ2; δ3 = δ3; δ4 = δ4; δ5 = δ5; δ6 = δ6; δ7 = δ7; δ8 = δ8; δ9 = δ9; δ10 = δ10; δ11 = δ11; δ12 = δ12 }) $ move ! (41 ∷ 42 ∷ []) $ join ! $ move ! (41 ∷ 0 ∷ []) $ join ! $ move ! (40 ∷ 0 ∷ []) $ join ! $ move ! (2 ∷ 0 ∷ []) $ join ! $ move ! (4 ∷ 0 ∷ []) $ join ! $ move ! (6 ∷ 0 ∷ []) $ join ! $ move ! (8 ∷ 0 ∷ []) $ join ! $ move ! (10 ∷ 0 ∷ []) $ join ! $ move ! (12 ∷ 0 ∷ []) $ join ! $ move ! (14 ∷ 0 ∷ []) $ join ! $ move ! (16 ∷ 0 ∷ []) $ join ! $ move ! (18 ∷ 0 ∷ []) $ join ! $ move ! (20 ∷ 0 ∷ []) $ join ! $ move ! (22 ∷ 0 ∷ []) $ join ! $ move ! (24 ∷ 0 ∷ []) $ join ! $ move ! (26 ∷ 0 ∷ []) $ join ! $ move ! (4 ∷ 2 ∷ []) $ join ! $ move ! (5 ∷ 0 ∷ []) $ join ! $ move ! (6 ∷ 0 ∷ []) $ join ! $ move ! (7 ∷ 0 ∷ []) $ join ! $ move ! (8 ∷ 0 ∷ []) $ join ! $ move ! (9 ∷ 0 ∷ []) $ join ! $ move ! (10 ∷ 0 ∷ []) $ join ! $ move ! (11 ∷ 0 ∷ []) $ join ! $ move ! (12 ∷ 0 ∷ []) $ join ! $ move ! (13 ∷ 0 ∷ []) $ join ! $ move ! (14 ∷ 0 ∷ []) $ join ! $ move ! (15 ∷ 0 ∷ []) $ join ! $ move ! (3 ∷ 2 ∷ []) $ join ! $ move ! (3 ∷ 0 ∷ []) $ join ! $ move ! (3 ∷ 0 ∷ []) $ join ! $ move ! (3 ∷ 0 ∷ []) $ join ! $ move ! (3 ∷ 0 ∷ []) $ join ! $ move ! (3 ∷ 0 ∷ []) $ join ! $ move ! (3 ∷ 0 ∷ []) $ join ! $ move ! (3 ∷ 0 ∷ []) $ join ! $ move ! (3 ∷ 0 ∷ []) $ join ! $ move ! (3 ∷ 0 ∷ []) $ join ! $ move ! (3 ∷ 0 ∷ []) $ join ! $ move ! (3 ∷ 0 ∷ []) $ join ! $ move ! (1 ∷ 2 ∷ []) $ join ! $ move ! (1 ∷ 0 ∷ []) $ join ! $ done !))))))))))))))))))))))))))
 
@@ -208,7 +208,7 @@ module _ {M : Type 1} (𝓤 : URA M) (H : Heap 𝓤) (A : Atoms 𝓤) (W : Given
       move ! (15 ∷ []) $ lft-end ! tt $ move ! (0 ∷ 22 ∷ 13 ∷ []) $ use3 W (later (‵ (partAt (Array u8 32768) fullShare g·hash b-g (o-g + 79104)))) (ref-back 𝓤 H A W (Array u8 32768) (n-g .ν10 ∷ []) (n-g .δ10) g·hash b-g (o-g + 79104)) $ await ! tt $
       move ! (13 ∷ []) $ lft-end ! tt $ move ! (0 ∷ 20 ∷ 12 ∷ []) $ use3 W (later (‵ (partAt (Array u32 1088) fullShare g·buckets b-g (o-g + 111872)))) (ref-back 𝓤 H A W (Array u32 1088) (n-g .ν11 ∷ []) (n-g .δ11) g·buckets b-g (o-g + 111872)) $ await ! tt $
       move ! (13 ∷ []) $ lft-end ! tt $ move ! (0 ∷ 18 ∷ 13 ∷ []) $ use3 W (later (‵ (partAt (Array u64 16) fullShare g·numbers b-g (o-g + 116224)))) (ref-back 𝓤 H A W (Array u64 16) (n-g .ν12 ∷ []) (n-g .δ12) g·numbers b-g (o-g + 116224)) $ await ! tt $
-      move ! (0 ∷ 16 ∷ []) $ join ! $ move ! (1 ∷ 0 ∷ []) $ join ! $ move ! (1 ∷ 0 ∷ []) $ join ! $ move ! (1 ∷ 0 ∷ []) $ join ! $ move ! (1 ∷ 0 ∷ []) $ join ! $ move ! (1 ∷ 0 ∷ []) $ join ! $ move ! (1 ∷ 0 ∷ []) $ join ! $ move ! (1 ∷ 0 ∷ []) $ join ! $ move ! (1 ∷ 0 ∷ []) $ join ! $ move ! (1 ∷ 0 ∷ []) $ join ! $ move ! (1 ∷ 0 ∷ []) $ join ! $ move ! (1 ∷ 0 ∷ []) $ join ! $ move ! (1 ∷ 0 ∷ []) $ join ! $ use1 W (‵ (partAt Group.the-row fullShare (record { number = g·number; ints = g·ints; exts = g·exts; accounts = g·accounts; home = g·home; owner = g·owner; kind = g·kind; form = g·form; time = g·time; address = g·address; hash = g·hash; buckets = g·buckets; numbers = g·numbers }) b-g o-g)) (group-together 𝓤 H A W (record { number = g·number; ints = g·ints; exts = g·exts; accounts = g·accounts; home = g·home; owner = g·owner; kind = g·kind; form = g·form; time = g·time; address = g·address; hash = g·hash; buckets = g·buckets; numbers = g·numbers }) b-g o-g) $ move ! (0 ∷ 3 ∷ 1 ∷ 2 ∷ []) $ close-ref ! tt (mem Group.the-row) (record { number = g·number; ints = g·ints; exts = g·exts; accounts = g·accounts; home = g·home; owner = g·owner; kind = g·kind; form = g·form; time = g·time; address = g·address; hash = g·hash; buckets = g·buckets; numbers = g·numbers }) {b = b-g} {o = o-g} $ at-once ! $ move ! (1 ∷ 2 ∷ []) $ join ! $ move ! (1 ∷ 0 ∷ []) $ join ! $ done !
+      nothing ! $ move ! (1 ∷ 0 ∷ []) $ join ! $ move ! (1 ∷ 0 ∷ []) $ join ! $ move ! (1 ∷ 0 ∷ []) $ join ! $ move ! (1 ∷ 0 ∷ []) $ join ! $ move ! (1 ∷ 0 ∷ []) $ join ! $ move ! (1 ∷ 0 ∷ []) $ join ! $ move ! (1 ∷ 0 ∷ []) $ join ! $ move ! (1 ∷ 0 ∷ []) $ join ! $ move ! (1 ∷ 0 ∷ []) $ join ! $ move ! (1 ∷ 0 ∷ []) $ join ! $ move ! (1 ∷ 0 ∷ []) $ join ! $ move ! (1 ∷ 0 ∷ []) $ join ! $ move ! (1 ∷ 0 ∷ []) $ join ! $ move ! (0 ∷ 4 ∷ []) $ use2 W (‵ (partAt Group.the-row fullShare (record { number = g·number; ints = g·ints; exts = g·exts; accounts = g·accounts; home = g·home; owner = g·owner; kind = g·kind; form = g·form; time = g·time; address = g·address; hash = g·hash; buckets = g·buckets; numbers = g·numbers }) b-g o-g)) (group-together 𝓤 H A W (record { number = g·number; ints = g·ints; exts = g·exts; accounts = g·accounts; home = g·home; owner = g·owner; kind = g·kind; form = g·form; time = g·time; address = g·address; hash = g·hash; buckets = g·buckets; numbers = g·numbers }) b-g o-g) $ move ! (0 ∷ 3 ∷ 1 ∷ 2 ∷ []) $ close-ref ! tt (mem Group.the-row) (record { number = g·number; ints = g·ints; exts = g·exts; accounts = g·accounts; home = g·home; owner = g·owner; kind = g·kind; form = g·form; time = g·time; address = g·address; hash = g·hash; buckets = g·buckets; numbers = g·numbers }) {b = b-g} {o = o-g} $ at-once ! $ move ! (1 ∷ 2 ∷ []) $ join ! $ move ! (1 ∷ 0 ∷ []) $ join ! $ done !
 
   goes-to-core : (n-g : Names-g) → ent 𝓤 (mean 𝓤 H A (Refs-g n-g ⊛ Tokens-g n-g)) (Core 𝓤 H A at-mem run .pre (to-core n-g))
   goes-to-core n-g =

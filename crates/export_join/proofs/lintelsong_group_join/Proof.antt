@@ -16,7 +16,7 @@ use prog.Wp.{Heap, Calls, Loops, WpFn, Tables}
 use ghost.Atoms.{Atoms}
 use contract.Monad.{Fun, fact}
 use contract.Running.{givenOf, tables, tablesOf}
-use types.Kit.{Given, Item, ‵, raw, some, later, mean, _⊛_, ⋆, _$_, _∵_, !, qed, by, move, keep, drop, use1, use3, split, join, pick, rewrite, fsplit, fsplit3, fjoin, fjoin3, feqI, suffices, frame, await, updating, now as at-once, show, done}
+use types.Kit.{Given, Item, ‵, raw, some, later, mean, _⊛_, ⋆, _$_, _∵_, !, qed, by, move, keep, drop, use1, use2, use3, split, join, pick, rewrite, fsplit, fsplit3, fjoin, fjoin3, feqI, suffices, frame, await, updating, now as at-once, show, done}
 use types.Run.{look, init, forget, stop, hop, fld, from, load, addr, and-then, no-more, assigns, land, returns, enter, alloc1, alloc0, params1, pass1, pass0, free1, free0}
 use types.Mut.{open-ref, close-ref}
 use types.SemTy.{Body}
@@ -260,19 +260,19 @@ module _ {M : Type 1} (𝓤 : URA M) (H : Heap 𝓤) (A : Atoms 𝓤) (W : Given
   lend-left : ent 𝓤 (mean 𝓤 H A (‵ (fobs γ-left (Group.the-row .coded .code left)) ⊛ ‵ (fbor κ-left (Body (mem Group.the-row) b-left o-left γ-left)) ⊛ ‵ (flft κ-left q-left))) (mean 𝓤 H A (later (some (λ (n-left : Names-left). Refs-left n-left ⊛ (Tokens-left n-left ⊛ Kept-left n-left)))))
   lend-left =
       qed W ((‵ (fobs γ-left (Group.the-row .coded .code left)) ⊛ ‵ (fbor κ-left (Body (mem Group.the-row) b-left o-left γ-left)) ⊛ ‵ (flft κ-left q-left)) ∷ []) ∵
-      updating ! $ split ! $ move ! (1 ∷ []) $ split ! $ move ! (2 ∷ 0 ∷ 1 ∷ []) $ open-ref ! tt (mem Group.the-row) {x = left} {b = b-left} {o = o-left} $ use1 W (‵ (partAt (Array u16 64) fullShare (left .number) b-left (o-left + 0)) ⊛ ‵ (partAt (Array u8 64) fullShare (left .ints) b-left (o-left + 128)) ⊛ ‵ (partAt (Array u8 64) fullShare (left .exts) b-left (o-left + 192)) ⊛ ‵ (partAt (Array u8 32768) fullShare (left .accounts) b-left (o-left + 256)) ⊛ ‵ (partAt (Array u8 1024) fullShare (left .home) b-left (o-left + 33024)) ⊛ ‵ (partAt (Array u16 1024) fullShare (left .owner) b-left (o-left + 34048)) ⊛ ‵ (partAt (Array u8 1024) fullShare (left .kind) b-left (o-left + 36096)) ⊛ ‵ (partAt (Array u8 1024) fullShare (left .form) b-left (o-left + 37120)) ⊛ ‵ (partAt (Array u64 1024) fullShare (left .time) b-left (o-left + 38144)) ⊛ ‵ (partAt (Array u8 32768) fullShare (left .address) b-left (o-left + 46336)) ⊛ ‵ (partAt (Array u8 32768) fullShare (left .hash) b-left (o-left + 79104)) ⊛ ‵ (partAt (Array u32 1088) fullShare (left .buckets) b-left (o-left + 111872)) ⊛ ‵ (partAt (Array u64 16) fullShare (left .numbers) b-left (o-left + 116224)) ⊛ raw (GroupBack 𝓤 H A b-left o-left)) (group-apart 𝓤 H A W left b-left o-left) $ split ! $ move ! (1 ∷ []) $ split ! $ move ! (1 ∷ []) $ split ! $ move ! (1 ∷ []) $ split ! $ move ! (1 ∷ []) $ split ! $ move ! (1 ∷ []) $ split ! $ move ! (1 ∷ []) $ split ! $ move ! (1 ∷ []) $ split ! $ move ! (1 ∷ []) $ split ! $ move ! (1 ∷ []) $ split ! $ move ! (1 ∷ []) $ split ! $ move ! (1 ∷ []) $ split ! $ move ! (1 ∷ []) $ split ! $
-      lft-new ! tt (λ ν0. move ! (14 ∷ []) $ use1 W (later (some (λ (δ0 : GName). ‵ (MutRef (named 0) (ν0 ∷ []) (Array u16 64) .own (x0 (δ0)) (vptr b-left (o-left + 0) ∷ [])) ⊛ ‵ (flent (ν0 ∷ []) (Body (mem (Array u16 64)) b-left (o-left + 0) (δ0)))))) (lends-ref 𝓤 H A W (Array u16 64) (named 0) (ν0 ∷ []) (left .number) b-left (o-left + 0)) $ await ! tt $ pick ! (λ δ0. split ! $
-      lft-new ! tt (λ ν1. move ! (16 ∷ []) $ use1 W (later (some (λ (δ1 : GName). ‵ (MutRef (named 1) (ν1 ∷ []) (Array u8 64) .own (x1 (δ1)) (vptr b-left (o-left + 128) ∷ [])) ⊛ ‵ (flent (ν1 ∷ []) (Body (mem (Array u8 64)) b-left (o-left + 128) (δ1)))))) (lends-ref 𝓤 H A W (Array u8 64) (named 1) (ν1 ∷ []) (left .ints) b-left (o-left + 128)) $ await ! tt $ pick ! (λ δ1. split ! $
-      lft-new ! tt (λ ν2. move ! (18 ∷ []) $ use1 W (later (some (λ (δ2 : GName). ‵ (MutRef (named 2) (ν2 ∷ []) (Array u8 64) .own (x2 (δ2)) (vptr b-left (o-left + 192) ∷ [])) ⊛ ‵ (flent (ν2 ∷ []) (Body (mem (Array u8 64)) b-left (o-left + 192) (δ2)))))) (lends-ref 𝓤 H A W (Array u8 64) (named 2) (ν2 ∷ []) (left .exts) b-left (o-left + 192)) $ await ! tt $ pick ! (λ δ2. split ! $
-      lft-new ! tt (λ ν3. move ! (20 ∷ []) $ use1 W (later (some (λ (δ3 : GName). ‵ (MutRef (named 3) (ν3 ∷ []) (Array u8 32768) .own (x3 (δ3)) (vptr b-left (o-left + 256) ∷ [])) ⊛ ‵ (flent (ν3 ∷ []) (Body (mem (Array u8 32768)) b-left (o-left + 256) (δ3)))))) (lends-ref 𝓤 H A W (Array u8 32768) (named 3) (ν3 ∷ []) (left .accounts) b-left (o-left + 256)) $ await ! tt $ pick ! (λ δ3. split ! $
-      lft-new ! tt (λ ν4. move ! (22 ∷ []) $ use1 W (later (some (λ (δ4 : GName). ‵ (MutRef (named 4) (ν4 ∷ []) (Array u8 1024) .own (x4 (δ4)) (vptr b-left (o-left + 33024) ∷ [])) ⊛ ‵ (flent (ν4 ∷ []) (Body (mem (Array u8 1024)) b-left (o-left + 33024) (δ4)))))) (lends-ref 𝓤 H A W (Array u8 1024) (named 4) (ν4 ∷ []) (left .home) b-left (o-left + 33024)) $ await ! tt $ pick ! (λ δ4. split ! $
-      lft-new ! tt (λ ν5. move ! (24 ∷ []) $ use1 W (later (some (λ (δ5 : GName). ‵ (MutRef (named 5) (ν5 ∷ []) (Array u16 1024) .own (x5 (δ5)) (vptr b-left (o-left + 34048) ∷ [])) ⊛ ‵ (flent (ν5 ∷ []) (Body (mem (Array u16 1024)) b-left (o-left + 34048) (δ5)))))) (lends-ref 𝓤 H A W (Array u16 1024) (named 5) (ν5 ∷ []) (left .owner) b-left (o-left + 34048)) $ await ! tt $ pick ! (λ δ5. split ! $
-      lft-new ! tt (λ ν6. move ! (26 ∷ []) $ use1 W (later (some (λ (δ6 : GName). ‵ (MutRef (named 6) (ν6 ∷ []) (Array u8 1024) .own (x6 (δ6)) (vptr b-left (o-left + 36096) ∷ [])) ⊛ ‵ (flent (ν6 ∷ []) (Body (mem (Array u8 1024)) b-left (o-left + 36096) (δ6)))))) (lends-ref 𝓤 H A W (Array u8 1024) (named 6) (ν6 ∷ []) (left .kind) b-left (o-left + 36096)) $ await ! tt $ pick ! (λ δ6. split ! $
-      lft-new ! tt (λ ν7. move ! (28 ∷ []) $ use1 W (later (some (λ (δ7 : GName). ‵ (MutRef (named 7) (ν7 ∷ []) (Array u8 1024) .own (x7 (δ7)) (vptr b-left (o-left + 37120) ∷ [])) ⊛ ‵ (flent (ν7 ∷ []) (Body (mem (Array u8 1024)) b-left (o-left + 37120) (δ7)))))) (lends-ref 𝓤 H A W (Array u8 1024) (named 7) (ν7 ∷ []) (left .form) b-left (o-left + 37120)) $ await ! tt $ pick ! (λ δ7. split ! $
-      lft-new ! tt (λ ν8. move ! (30 ∷ []) $ use1 W (later (some (λ (δ8 : GName). ‵ (MutRef (named 8) (ν8 ∷ []) (Array u64 1024) .own (x8 (δ8)) (vptr b-left (o-left + 38144) ∷ [])) ⊛ ‵ (flent (ν8 ∷ []) (Body (mem (Array u64 1024)) b-left (o-left + 38144) (δ8)))))) (lends-ref 𝓤 H A W (Array u64 1024) (named 8) (ν8 ∷ []) (left .time) b-left (o-left + 38144)) $ await ! tt $ pick ! (λ δ8. split ! $
-      lft-new ! tt (λ ν9. move ! (32 ∷ []) $ use1 W (later (some (λ (δ9 : GName). ‵ (MutRef (named 9) (ν9 ∷ []) (Array u8 32768) .own (x9 (δ9)) (vptr b-left (o-left + 46336) ∷ [])) ⊛ ‵ (flent (ν9 ∷ []) (Body (mem (Array u8 32768)) b-left (o-left + 46336) (δ9)))))) (lends-ref 𝓤 H A W (Array u8 32768) (named 9) (ν9 ∷ []) (left .address) b-left (o-left + 46336)) $ await ! tt $ pick ! (λ δ9. split ! $
-      lft-new ! tt (λ ν10. move ! (34 ∷ []) $ use1 W (later (some (λ (δ10 : GName). ‵ (MutRef (named 10) (ν10 ∷ []) (Array u8 32768) .own (x10 (δ10)) (vptr b-left (o-left + 79104) ∷ [])) ⊛ ‵ (flent (ν10 ∷ []) (Body (mem (Array u8 32768)) b-left (o-left + 79104) (δ10)))))) (lends-ref 𝓤 H A W (Array u8 32768) (named 10) (ν10 ∷ []) (left .hash) b-left (o-left + 79104)) $ await ! tt $ pick ! (λ δ10. split ! $
-      lft-new ! tt (λ ν11. move ! (36 ∷ []) $ use1 W (later (some (λ (δ11 : GName). ‵ (MutRef (named 11) (ν11 ∷ []) (Array u32 1088) .own (x11 (δ11)) (vptr b-left (o-left + 111872) ∷ [])) ⊛ ‵ (flent (ν11 ∷ []) (Body (mem (Array u32 1088)) b-left (o-left + 111872) (δ11)))))) (lends-ref 𝓤 H A W (Array u32 1088) (named 11) (ν11 ∷ []) (left .buckets) b-left (o-left + 111872)) $ await ! tt $ pick ! (λ δ11. split ! $
+      updating ! $ split ! $ move ! (1 ∷ []) $ split ! $ move ! (2 ∷ 0 ∷ 1 ∷ []) $ open-ref ! tt (mem Group.the-row) {x = left} {b = b-left} {o = o-left} $ use1 W ((‵ (partAt (Array u16 64) fullShare (left .number) b-left (o-left + 0)) ⊛ ‵ (partAt (Array u8 64) fullShare (left .ints) b-left (o-left + 128)) ⊛ ‵ (partAt (Array u8 64) fullShare (left .exts) b-left (o-left + 192)) ⊛ ‵ (partAt (Array u8 32768) fullShare (left .accounts) b-left (o-left + 256)) ⊛ ‵ (partAt (Array u8 1024) fullShare (left .home) b-left (o-left + 33024)) ⊛ ‵ (partAt (Array u16 1024) fullShare (left .owner) b-left (o-left + 34048)) ⊛ ‵ (partAt (Array u8 1024) fullShare (left .kind) b-left (o-left + 36096)) ⊛ ‵ (partAt (Array u8 1024) fullShare (left .form) b-left (o-left + 37120)) ⊛ ‵ (partAt (Array u64 1024) fullShare (left .time) b-left (o-left + 38144)) ⊛ ‵ (partAt (Array u8 32768) fullShare (left .address) b-left (o-left + 46336)) ⊛ ‵ (partAt (Array u8 32768) fullShare (left .hash) b-left (o-left + 79104)) ⊛ ‵ (partAt (Array u32 1088) fullShare (left .buckets) b-left (o-left + 111872)) ⊛ ‵ (partAt (Array u64 16) fullShare (left .numbers) b-left (o-left + 116224)) ⊛ ‵ (ftrue)) ⊛ raw (GroupBack 𝓤 H A b-left o-left)) (group-apart 𝓤 H A W left b-left o-left) $ split ! $ split ! $ move ! (1 ∷ []) $ split ! $ move ! (1 ∷ []) $ split ! $ move ! (1 ∷ []) $ split ! $ move ! (1 ∷ []) $ split ! $ move ! (1 ∷ []) $ split ! $ move ! (1 ∷ []) $ split ! $ move ! (1 ∷ []) $ split ! $ move ! (1 ∷ []) $ split ! $ move ! (1 ∷ []) $ split ! $ move ! (1 ∷ []) $ split ! $ move ! (1 ∷ []) $ split ! $ move ! (1 ∷ []) $ split ! $ move ! (1 ∷ []) $ drop ! $
+      lft-new ! tt (λ ν0. move ! (13 ∷ []) $ use1 W (later (some (λ (δ0 : GName). ‵ (MutRef (named 0) (ν0 ∷ []) (Array u16 64) .own (x0 (δ0)) (vptr b-left (o-left + 0) ∷ [])) ⊛ ‵ (flent (ν0 ∷ []) (Body (mem (Array u16 64)) b-left (o-left + 0) (δ0)))))) (lends-ref 𝓤 H A W (Array u16 64) (named 0) (ν0 ∷ []) (left .number) b-left (o-left + 0)) $ await ! tt $ pick ! (λ δ0. split ! $
+      lft-new ! tt (λ ν1. move ! (15 ∷ []) $ use1 W (later (some (λ (δ1 : GName). ‵ (MutRef (named 1) (ν1 ∷ []) (Array u8 64) .own (x1 (δ1)) (vptr b-left (o-left + 128) ∷ [])) ⊛ ‵ (flent (ν1 ∷ []) (Body (mem (Array u8 64)) b-left (o-left + 128) (δ1)))))) (lends-ref 𝓤 H A W (Array u8 64) (named 1) (ν1 ∷ []) (left .ints) b-left (o-left + 128)) $ await ! tt $ pick ! (λ δ1. split ! $
+      lft-new ! tt (λ ν2. move ! (17 ∷ []) $ use1 W (later (some (λ (δ2 : GName). ‵ (MutRef (named 2) (ν2 ∷ []) (Array u8 64) .own (x2 (δ2)) (vptr b-left (o-left + 192) ∷ [])) ⊛ ‵ (flent (ν2 ∷ []) (Body (mem (Array u8 64)) b-left (o-left + 192) (δ2)))))) (lends-ref 𝓤 H A W (Array u8 64) (named 2) (ν2 ∷ []) (left .exts) b-left (o-left + 192)) $ await ! tt $ pick ! (λ δ2. split ! $
+      lft-new ! tt (λ ν3. move ! (19 ∷ []) $ use1 W (later (some (λ (δ3 : GName). ‵ (MutRef (named 3) (ν3 ∷ []) (Array u8 32768) .own (x3 (δ3)) (vptr b-left (o-left + 256) ∷ [])) ⊛ ‵ (flent (ν3 ∷ []) (Body (mem (Array u8 32768)) b-left (o-left + 256) (δ3)))))) (lends-ref 𝓤 H A W (Array u8 32768) (named 3) (ν3 ∷ []) (left .accounts) b-left (o-left + 256)) $ await ! tt $ pick ! (λ δ3. split ! $
+      lft-new ! tt (λ ν4. move ! (21 ∷ []) $ use1 W (later (some (λ (δ4 : GName). ‵ (MutRef (named 4) (ν4 ∷ []) (Array u8 1024) .own (x4 (δ4)) (vptr b-left (o-left + 33024) ∷ [])) ⊛ ‵ (flent (ν4 ∷ []) (Body (mem (Array u8 1024)) b-left (o-left + 33024) (δ4)))))) (lends-ref 𝓤 H A W (Array u8 1024) (named 4) (ν4 ∷ []) (left .home) b-left (o-left + 33024)) $ await ! tt $ pick ! (λ δ4. split ! $
+      lft-new ! tt (λ ν5. move ! (23 ∷ []) $ use1 W (later (some (λ (δ5 : GName). ‵ (MutRef (named 5) (ν5 ∷ []) (Array u16 1024) .own (x5 (δ5)) (vptr b-left (o-left + 34048) ∷ [])) ⊛ ‵ (flent (ν5 ∷ []) (Body (mem (Array u16 1024)) b-left (o-left + 34048) (δ5)))))) (lends-ref 𝓤 H A W (Array u16 1024) (named 5) (ν5 ∷ []) (left .owner) b-left (o-left + 34048)) $ await ! tt $ pick ! (λ δ5. split ! $
+      lft-new ! tt (λ ν6. move ! (25 ∷ []) $ use1 W (later (some (λ (δ6 : GName). ‵ (MutRef (named 6) (ν6 ∷ []) (Array u8 1024) .own (x6 (δ6)) (vptr b-left (o-left + 36096) ∷ [])) ⊛ ‵ (flent (ν6 ∷ []) (Body (mem (Array u8 1024)) b-left (o-left + 36096) (δ6)))))) (lends-ref 𝓤 H A W (Array u8 1024) (named 6) (ν6 ∷ []) (left .kind) b-left (o-left + 36096)) $ await ! tt $ pick ! (λ δ6. split ! $
+      lft-new ! tt (λ ν7. move ! (27 ∷ []) $ use1 W (later (some (λ (δ7 : GName). ‵ (MutRef (named 7) (ν7 ∷ []) (Array u8 1024) .own (x7 (δ7)) (vptr b-left (o-left + 37120) ∷ [])) ⊛ ‵ (flent (ν7 ∷ []) (Body (mem (Array u8 1024)) b-left (o-left + 37120) (δ7)))))) (lends-ref 𝓤 H A W (Array u8 1024) (named 7) (ν7 ∷ []) (left .form) b-left (o-left + 37120)) $ await ! tt $ pick ! (λ δ7. split ! $
+      lft-new ! tt (λ ν8. move ! (29 ∷ []) $ use1 W (later (some (λ (δ8 : GName). ‵ (MutRef (named 8) (ν8 ∷ []) (Array u64 1024) .own (x8 (δ8)) (vptr b-left (o-left + 38144) ∷ [])) ⊛ ‵ (flent (ν8 ∷ []) (Body (mem (Array u64 1024)) b-left (o-left + 38144) (δ8)))))) (lends-ref 𝓤 H A W (Array u64 1024) (named 8) (ν8 ∷ []) (left .time) b-left (o-left + 38144)) $ await ! tt $ pick ! (λ δ8. split ! $
+      lft-new ! tt (λ ν9. move ! (31 ∷ []) $ use1 W (later (some (λ (δ9 : GName). ‵ (MutRef (named 9) (ν9 ∷ []) (Array u8 32768) .own (x9 (δ9)) (vptr b-left (o-left + 46336) ∷ [])) ⊛ ‵ (flent (ν9 ∷ []) (Body (mem (Array u8 32768)) b-left (o-left + 46336) (δ9)))))) (lends-ref 𝓤 H A W (Array u8 32768) (named 9) (ν9 ∷ []) (left .address) b-left (o-left + 46336)) $ await ! tt $ pick ! (λ δ9. split ! $
+      lft-new ! tt (λ ν10. move ! (33 ∷ []) $ use1 W (later (some (λ (δ10 : GName). ‵ (MutRef (named 10) (ν10 ∷ []) (Array u8 32768) .own (x10 (δ10)) (vptr b-left (o-left + 79104) ∷ [])) ⊛ ‵ (flent (ν10 ∷ []) (Body (mem (Array u8 32768)) b-left (o-left + 79104) (δ10)))))) (lends-ref 𝓤 H A W (Array u8 32768) (named 10) (ν10 ∷ []) (left .hash) b-left (o-left + 79104)) $ await ! tt $ pick ! (λ δ10. split ! $
+      lft-new ! tt (λ ν11. move ! (35 ∷ []) $ use1 W (later (some (λ (δ11 : GName). ‵ (MutRef (named 11) (ν11 ∷ []) (Array u32 1088) .own (x11 (δ11)) (vptr b-left (o-left + 111872) ∷ [])) ⊛ ‵ (flent (ν11 ∷ []) (Body (mem (Array u32 1088)) b-left (o-left + 111872) (δ11)))))) (lends-ref 𝓤 H A W (Array u32 1088) (named 11) (ν11 ∷ []) (left .buckets) b-left (o-left + 111872)) $ await ! tt $ pick ! (λ δ11. split ! $
       lft-new ! tt (λ ν12. move ! (37 ∷ []) $ use1 W (later (some (λ (δ12 : GName). ‵ (MutRef (named 12) (ν12 ∷ []) (Array u64 16) .own (x12 (δ12)) (vptr b-left (o-left + 116224) ∷ [])) ⊛ ‵ (flent (ν12 ∷ []) (Body (mem (Array u64 16)) b-left (o-left + 116224) (δ12)))))) (lends-ref 𝓤 H A W (Array u64 16) (named 12) (ν12 ∷ []) (left .numbers) b-left (o-left + 116224)) $ await ! tt $ pick ! (λ δ12. split ! $
       at-once ! $ show ! (λ (n-left : Names-left). mean 𝓤 H A (Refs-left n-left ⊛ (Tokens-left n-left ⊛ Kept-left n-left))) (record { ν0 = ν0; ν1 = ν1; ν2 = ν2; ν3 = ν3; ν4 = ν4; ν5 = ν5; ν6 = ν6; ν7 = ν7; ν8 = ν8; ν9 = ν9; ν10 = ν10; ν11 = ν11; ν12 = ν12; δ0 = δ0; δ1 = δ1; δ2 = δ2; δ3 = δ3; δ4 = δ4; δ5 = δ5; δ6 = δ6; δ7 = δ7; δ8 = δ8; δ9 = δ9; δ10 = δ10; δ11 = δ11; δ12 = δ12 }) $ move ! (41 ∷ 42 ∷ []) $ join ! $ move ! (41 ∷ 0 ∷ []) $ join ! $ move ! (40 ∷ 0 ∷ []) $ join ! $ move ! (2 ∷ 0 ∷ []) $ join ! $ move ! (4 ∷ 0 ∷ []) $ join ! $ move ! (6 ∷ 0 ∷ []) $ join ! $ move ! (8 ∷ 0 ∷ []) $ join ! $ move ! (10 ∷ 0 ∷ []) $ join ! $ move ! (12 ∷ 0 ∷ []) $ join ! $ move ! (14 ∷ 0 ∷ []) $ join ! $ move ! (16 ∷ 0 ∷ []) $ join ! $ move ! (18 ∷ 0 ∷ []) $ join ! $ move ! (20 ∷ 0 ∷ []) $ join ! $ move ! (22 ∷ 0 ∷ []) $ join ! $ move ! (24 ∷ 0 ∷ []) $ join ! $ move ! (26 ∷ 0 ∷ []) $ join ! $ move ! (4 ∷ 2 ∷ []) $ join ! $ move ! (5 ∷ 0 ∷ []) $ join ! $ move ! (6 ∷ 0 ∷ []) $ join ! $ move ! (7 ∷ 0 ∷ []) $ join ! $ move ! (8 ∷ 0 ∷ []) $ join ! $ move ! (9 ∷ 0 ∷ []) $ join ! $ move ! (10 ∷ 0 ∷ []) $ join ! $ move ! (11 ∷ 0 ∷ []) $ join ! $ move ! (12 ∷ 0 ∷ []) $ join ! $ move ! (13 ∷ 0 ∷ []) $ join ! $ move ! (14 ∷ 0 ∷ []) $ join ! $ move ! (15 ∷ 0 ∷ []) $ join ! $ move ! (3 ∷ 2 ∷ []) $ join ! $ move ! (3 ∷ 0 ∷ []) $ join ! $ move ! (3 ∷ 0 ∷ []) $ join ! $ move ! (3 ∷ 0 ∷ []) $ join ! $ move ! (3 ∷ 0 ∷ []) $ join ! $ move ! (3 ∷ 0 ∷ []) $ join ! $ move ! (3 ∷ 0 ∷ []) $ join ! $ move ! (3 ∷ 0 ∷ []) $ join ! $ move ! (3 ∷ 0 ∷ []) $ join ! $ move ! (3 ∷ 0 ∷ []) $ join ! $ move ! (3 ∷ 0 ∷ []) $ join ! $ move ! (3 ∷ 0 ∷ []) $ join ! $ move ! (1 ∷ 2 ∷ []) $ join ! $ move ! (1 ∷ 0 ∷ []) $ join ! $ done !))))))))))))))))))))))))))
 
@@ -293,7 +293,7 @@ module _ {M : Type 1} (𝓤 : URA M) (H : Heap 𝓤) (A : Atoms 𝓤) (W : Given
       move ! (15 ∷ []) $ lft-end ! tt $ move ! (0 ∷ 22 ∷ 13 ∷ []) $ use3 W (later (‵ (partAt (Array u8 32768) fullShare left·hash b-left (o-left + 79104)))) (ref-back 𝓤 H A W (Array u8 32768) (n-left .ν10 ∷ []) (n-left .δ10) left·hash b-left (o-left + 79104)) $ await ! tt $
       move ! (13 ∷ []) $ lft-end ! tt $ move ! (0 ∷ 20 ∷ 12 ∷ []) $ use3 W (later (‵ (partAt (Array u32 1088) fullShare left·buckets b-left (o-left + 111872)))) (ref-back 𝓤 H A W (Array u32 1088) (n-left .ν11 ∷ []) (n-left .δ11) left·buckets b-left (o-left + 111872)) $ await ! tt $
       move ! (13 ∷ []) $ lft-end ! tt $ move ! (0 ∷ 18 ∷ 13 ∷ []) $ use3 W (later (‵ (partAt (Array u64 16) fullShare left·numbers b-left (o-left + 116224)))) (ref-back 𝓤 H A W (Array u64 16) (n-left .ν12 ∷ []) (n-left .δ12) left·numbers b-left (o-left + 116224)) $ await ! tt $
-      move ! (0 ∷ 16 ∷ []) $ join ! $ move ! (1 ∷ 0 ∷ []) $ join ! $ move ! (1 ∷ 0 ∷ []) $ join ! $ move ! (1 ∷ 0 ∷ []) $ join ! $ move ! (1 ∷ 0 ∷ []) $ join ! $ move ! (1 ∷ 0 ∷ []) $ join ! $ move ! (1 ∷ 0 ∷ []) $ join ! $ move ! (1 ∷ 0 ∷ []) $ join ! $ move ! (1 ∷ 0 ∷ []) $ join ! $ move ! (1 ∷ 0 ∷ []) $ join ! $ move ! (1 ∷ 0 ∷ []) $ join ! $ move ! (1 ∷ 0 ∷ []) $ join ! $ move ! (1 ∷ 0 ∷ []) $ join ! $ use1 W (‵ (partAt Group.the-row fullShare (record { number = left·number; ints = left·ints; exts = left·exts; accounts = left·accounts; home = left·home; owner = left·owner; kind = left·kind; form = left·form; time = left·time; address = left·address; hash = left·hash; buckets = left·buckets; numbers = left·numbers }) b-left o-left)) (group-together 𝓤 H A W (record { number = left·number; ints = left·ints; exts = left·exts; accounts = left·accounts; home = left·home; owner = left·owner; kind = left·kind; form = left·form; time = left·time; address = left·address; hash = left·hash; buckets = left·buckets; numbers = left·numbers }) b-left o-left) $ move ! (0 ∷ 3 ∷ 1 ∷ 2 ∷ []) $ close-ref ! tt (mem Group.the-row) (record { number = left·number; ints = left·ints; exts = left·exts; accounts = left·accounts; home = left·home; owner = left·owner; kind = left·kind; form = left·form; time = left·time; address = left·address; hash = left·hash; buckets = left·buckets; numbers = left·numbers }) {b = b-left} {o = o-left} $ at-once ! $ move ! (1 ∷ 2 ∷ []) $ join ! $ move ! (1 ∷ 0 ∷ []) $ join ! $ done !
+      nothing ! $ move ! (1 ∷ 0 ∷ []) $ join ! $ move ! (1 ∷ 0 ∷ []) $ join ! $ move ! (1 ∷ 0 ∷ []) $ join ! $ move ! (1 ∷ 0 ∷ []) $ join ! $ move ! (1 ∷ 0 ∷ []) $ join ! $ move ! (1 ∷ 0 ∷ []) $ join ! $ move ! (1 ∷ 0 ∷ []) $ join ! $ move ! (1 ∷ 0 ∷ []) $ join ! $ move ! (1 ∷ 0 ∷ []) $ join ! $ move ! (1 ∷ 0 ∷ []) $ join ! $ move ! (1 ∷ 0 ∷ []) $ join ! $ move ! (1 ∷ 0 ∷ []) $ join ! $ move ! (1 ∷ 0 ∷ []) $ join ! $ move ! (0 ∷ 4 ∷ []) $ use2 W (‵ (partAt Group.the-row fullShare (record { number = left·number; ints = left·ints; exts = left·exts; accounts = left·accounts; home = left·home; owner = left·owner; kind = left·kind; form = left·form; time = left·time; address = left·address; hash = left·hash; buckets = left·buckets; numbers = left·numbers }) b-left o-left)) (group-together 𝓤 H A W (record { number = left·number; ints = left·ints; exts = left·exts; accounts = left·accounts; home = left·home; owner = left·owner; kind = left·kind; form = left·form; time = left·time; address = left·address; hash = left·hash; buckets = left·buckets; numbers = left·numbers }) b-left o-left) $ move ! (0 ∷ 3 ∷ 1 ∷ 2 ∷ []) $ close-ref ! tt (mem Group.the-row) (record { number = left·number; ints = left·ints; exts = left·exts; accounts = left·accounts; home = left·home; owner = left·owner; kind = left·kind; form = left·form; time = left·time; address = left·address; hash = left·hash; buckets = left·buckets; numbers = left·numbers }) {b = b-left} {o = o-left} $ at-once ! $ move ! (1 ∷ 2 ∷ []) $ join ! $ move ! (1 ∷ 0 ∷ []) $ join ! $ done !
 
   -- right: what it lends, with the tokens of the lifetimes; and what is kept meanwhile
   abbrev Refs-right : Names-right → Item 𝓤
@@ -308,19 +308,19 @@ module _ {M : Type 1} (𝓤 : URA M) (H : Heap 𝓤) (A : Atoms 𝓤) (W : Given
   lend-right : ent 𝓤 (mean 𝓤 H A (‵ (fobs γ-right (Group.the-row .coded .code right)) ⊛ ‵ (fbor κ-right (Body (mem Group.the-row) b-right o-right γ-right)) ⊛ ‵ (flft κ-right q-right))) (mean 𝓤 H A (later (some (λ (n-right : Names-right). Refs-right n-right ⊛ (Tokens-right n-right ⊛ Kept-right n-right)))))
   lend-right =
       qed W ((‵ (fobs γ-right (Group.the-row .coded .code right)) ⊛ ‵ (fbor κ-right (Body (mem Group.the-row) b-right o-right γ-right)) ⊛ ‵ (flft κ-right q-right)) ∷ []) ∵
-      updating ! $ split ! $ move ! (1 ∷ []) $ split ! $ move ! (2 ∷ 0 ∷ 1 ∷ []) $ open-ref ! tt (mem Group.the-row) {x = right} {b = b-right} {o = o-right} $ use1 W (‵ (partAt (Array u16 64) fullShare (right .number) b-right (o-right + 0)) ⊛ ‵ (partAt (Array u8 64) fullShare (right .ints) b-right (o-right + 128)) ⊛ ‵ (partAt (Array u8 64) fullShare (right .exts) b-right (o-right + 192)) ⊛ ‵ (partAt (Array u8 32768) fullShare (right .accounts) b-right (o-right + 256)) ⊛ ‵ (partAt (Array u8 1024) fullShare (right .home) b-right (o-right + 33024)) ⊛ ‵ (partAt (Array u16 1024) fullShare (right .owner) b-right (o-right + 34048)) ⊛ ‵ (partAt (Array u8 1024) fullShare (right .kind) b-right (o-right + 36096)) ⊛ ‵ (partAt (Array u8 1024) fullShare (right .form) b-right (o-right + 37120)) ⊛ ‵ (partAt (Array u64 1024) fullShare (right .time) b-right (o-right + 38144)) ⊛ ‵ (partAt (Array u8 32768) fullShare (right .address) b-right (o-right + 46336)) ⊛ ‵ (partAt (Array u8 32768) fullShare (right .hash) b-right (o-right + 79104)) ⊛ ‵ (partAt (Array u32 1088) fullShare (right .buckets) b-right (o-right + 111872)) ⊛ ‵ (partAt (Array u64 16) fullShare (right .numbers) b-right (o-right + 116224)) ⊛ raw (GroupBack 𝓤 H A b-right o-right)) (group-apart 𝓤 H A W right b-right o-right) $ split ! $ move ! (1 ∷ []) $ split ! $ move ! (1 ∷ []) $ split ! $ move ! (1 ∷ []) $ split ! $ move ! (1 ∷ []) $ split ! $ move ! (1 ∷ []) $ split ! $ move ! (1 ∷ []) $ split ! $ move ! (1 ∷ []) $ split ! $ move ! (1 ∷ []) $ split ! $ move ! (1 ∷ []) $ split ! $ move ! (1 ∷ []) $ split ! $ move ! (1 ∷ []) $ split ! $ move ! (1 ∷ []) $ split ! $
-      lft-new ! tt (λ ν13. move ! (14 ∷ []) $ use1 W (later (some (λ (δ13 : GName). ‵ (MutRef (named 13) (ν13 ∷ []) (Array u16 64) .own (x13 (δ13)) (vptr b-right (o-right + 0) ∷ [])) ⊛ ‵ (flent (ν13 ∷ []) (Body (mem (Array u16 64)) b-right (o-right + 0) (δ13)))))) (lends-ref 𝓤 H A W (Array u16 64) (named 13) (ν13 ∷ []) (right .number) b-right (o-right + 0)) $ await ! tt $ pick ! (λ δ13. split ! $
-      lft-new ! tt (λ ν14. move ! (16 ∷ []) $ use1 W (later (some (λ (δ14 : GName). ‵ (MutRef (named 14) (ν14 ∷ []) (Array u8 64) .own (x14 (δ14)) (vptr b-right (o-right + 128) ∷ [])) ⊛ ‵ (flent (ν14 ∷ []) (Body (mem (Array u8 64)) b-right (o-right + 128) (δ14)))))) (lends-ref 𝓤 H A W (Array u8 64) (named 14) (ν14 ∷ []) (right .ints) b-right (o-right + 128)) $ await ! tt $ pick ! (λ δ14. split ! $
-      lft-new ! tt (λ ν15. move ! (18 ∷ []) $ use1 W (later (some (λ (δ15 : GName). ‵ (MutRef (named 15) (ν15 ∷ []) (Array u8 64) .own (x15 (δ15)) (vptr b-right (o-right + 192) ∷ [])) ⊛ ‵ (flent (ν15 ∷ []) (Body (mem (Array u8 64)) b-right (o-right + 192) (δ15)))))) (lends-ref 𝓤 H A W (Array u8 64) (named 15) (ν15 ∷ []) (right .exts) b-right (o-right + 192)) $ await ! tt $ pick ! (λ δ15. split ! $
-      lft-new ! tt (λ ν16. move ! (20 ∷ []) $ use1 W (later (some (λ (δ16 : GName). ‵ (MutRef (named 16) (ν16 ∷ []) (Array u8 32768) .own (x16 (δ16)) (vptr b-right (o-right + 256) ∷ [])) ⊛ ‵ (flent (ν16 ∷ []) (Body (mem (Array u8 32768)) b-right (o-right + 256) (δ16)))))) (lends-ref 𝓤 H A W (Array u8 32768) (named 16) (ν16 ∷ []) (right .accounts) b-right (o-right + 256)) $ await ! tt $ pick ! (λ δ16. split ! $
-      lft-new ! tt (λ ν17. move ! (22 ∷ []) $ use1 W (later (some (λ (δ17 : GName). ‵ (MutRef (named 17) (ν17 ∷ []) (Array u8 1024) .own (x17 (δ17)) (vptr b-right (o-right + 33024) ∷ [])) ⊛ ‵ (flent (ν17 ∷ []) (Body (mem (Array u8 1024)) b-right (o-right + 33024) (δ17)))))) (lends-ref 𝓤 H A W (Array u8 1024) (named 17) (ν17 ∷ []) (right .home) b-right (o-right + 33024)) $ await ! tt $ pick ! (λ δ17. split ! $
-      lft-new ! tt (λ ν18. move ! (24 ∷ []) $ use1 W (later (some (λ (δ18 : GName). ‵ (MutRef (named 18) (ν18 ∷ []) (Array u16 1024) .own (x18 (δ18)) (vptr b-right (o-right + 34048) ∷ [])) ⊛ ‵ (flent (ν18 ∷ []) (Body (mem (Array u16 1024)) b-right (o-right + 34048) (δ18)))))) (lends-ref 𝓤 H A W (Array u16 1024) (named 18) (ν18 ∷ []) (right .owner) b-right (o-right + 34048)) $ await ! tt $ pick ! (λ δ18. split ! $
-      lft-new ! tt (λ ν19. move ! (26 ∷ []) $ use1 W (later (some (λ (δ19 : GName). ‵ (MutRef (named 19) (ν19 ∷ []) (Array u8 1024) .own (x19 (δ19)) (vptr b-right (o-right + 36096) ∷ [])) ⊛ ‵ (flent (ν19 ∷ []) (Body (mem (Array u8 1024)) b-right (o-right + 36096) (δ19)))))) (lends-ref 𝓤 H A W (Array u8 1024) (named 19) (ν19 ∷ []) (right .kind) b-right (o-right + 36096)) $ await ! tt $ pick ! (λ δ19. split ! $
-      lft-new ! tt (λ ν20. move ! (28 ∷ []) $ use1 W (later (some (λ (δ20 : GName). ‵ (MutRef (named 20) (ν20 ∷ []) (Array u8 1024) .own (x20 (δ20)) (vptr b-right (o-right + 37120) ∷ [])) ⊛ ‵ (flent (ν20 ∷ []) (Body (mem (Array u8 1024)) b-right (o-right + 37120) (δ20)))))) (lends-ref 𝓤 H A W (Array u8 1024) (named 20) (ν20 ∷ []) (right .form) b-right (o-right + 37120)) $ await ! tt $ pick ! (λ δ20. split ! $
-      lft-new ! tt (λ ν21. move ! (30 ∷ []) $ use1 W (later (some (λ (δ21 : GName). ‵ (MutRef (named 21) (ν21 ∷ []) (Array u64 1024) .own (x21 (δ21)) (vptr b-right (o-right + 38144) ∷ [])) ⊛ ‵ (flent (ν21 ∷ []) (Body (mem (Array u64 1024)) b-right (o-right + 38144) (δ21)))))) (lends-ref 𝓤 H A W (Array u64 1024) (named 21) (ν21 ∷ []) (right .time) b-right (o-right + 38144)) $ await ! tt $ pick ! (λ δ21. split ! $
-      lft-new ! tt (λ ν22. move ! (32 ∷ []) $ use1 W (later (some (λ (δ22 : GName). ‵ (MutRef (named 22) (ν22 ∷ []) (Array u8 32768) .own (x22 (δ22)) (vptr b-right (o-right + 46336) ∷ [])) ⊛ ‵ (flent (ν22 ∷ []) (Body (mem (Array u8 32768)) b-right (o-right + 46336) (δ22)))))) (lends-ref 𝓤 H A W (Array u8 32768) (named 22) (ν22 ∷ []) (right .address) b-right (o-right + 46336)) $ await ! tt $ pick ! (λ δ22. split ! $
-      lft-new ! tt (λ ν23. move ! (34 ∷ []) $ use1 W (later (some (λ (δ23 : GName). ‵ (MutRef (named 23) (ν23 ∷ []) (Array u8 32768) .own (x23 (δ23)) (vptr b-right (o-right + 79104) ∷ [])) ⊛ ‵ (flent (ν23 ∷ []) (Body (mem (Array u8 32768)) b-right (o-right + 79104) (δ23)))))) (lends-ref 𝓤 H A W (Array u8 32768) (named 23) (ν23 ∷ []) (right .hash) b-right (o-right + 79104)) $ await ! tt $ pick ! (λ δ23. split ! $
-      lft-new ! tt (λ ν24. move ! (36 ∷ []) $ use1 W (later (some (λ (δ24 : GName). ‵ (MutRef (named 24) (ν24 ∷ []) (Array u32 1088) .own (x24 (δ24)) (vptr b-right (o-right + 111872) ∷ [])) ⊛ ‵ (flent (ν24 ∷ []) (Body (mem (Array u32 1088)) b-right (o-right + 111872) (δ24)))))) (lends-ref 𝓤 H A W (Array u32 1088) (named 24) (ν24 ∷ []) (right .buckets) b-right (o-right + 111872)) $ await ! tt $ pick ! (λ δ24. split ! $
+      updating ! $ split ! $ move ! (1 ∷ []) $ split ! $ move ! (2 ∷ 0 ∷ 1 ∷ []) $ open-ref ! tt (mem Group.the-row) {x = right} {b = b-right} {o = o-right} $ use1 W ((‵ (partAt (Array u16 64) fullShare (right .number) b-right (o-right + 0)) ⊛ ‵ (partAt (Array u8 64) fullShare (right .ints) b-right (o-right + 128)) ⊛ ‵ (partAt (Array u8 64) fullShare (right .exts) b-right (o-right + 192)) ⊛ ‵ (partAt (Array u8 32768) fullShare (right .accounts) b-right (o-right + 256)) ⊛ ‵ (partAt (Array u8 1024) fullShare (right .home) b-right (o-right + 33024)) ⊛ ‵ (partAt (Array u16 1024) fullShare (right .owner) b-right (o-right + 34048)) ⊛ ‵ (partAt (Array u8 1024) fullShare (right .kind) b-right (o-right + 36096)) ⊛ ‵ (partAt (Array u8 1024) fullShare (right .form) b-right (o-right + 37120)) ⊛ ‵ (partAt (Array u64 1024) fullShare (right .time) b-right (o-right + 38144)) ⊛ ‵ (partAt (Array u8 32768) fullShare (right .address) b-right (o-right + 46336)) ⊛ ‵ (partAt (Array u8 32768) fullShare (right .hash) b-right (o-right + 79104)) ⊛ ‵ (partAt (Array u32 1088) fullShare (right .buckets) b-right (o-right + 111872)) ⊛ ‵ (partAt (Array u64 16) fullShare (right .numbers) b-right (o-right + 116224)) ⊛ ‵ (ftrue)) ⊛ raw (GroupBack 𝓤 H A b-right o-right)) (group-apart 𝓤 H A W right b-right o-right) $ split ! $ split ! $ move ! (1 ∷ []) $ split ! $ move ! (1 ∷ []) $ split ! $ move ! (1 ∷ []) $ split ! $ move ! (1 ∷ []) $ split ! $ move ! (1 ∷ []) $ split ! $ move ! (1 ∷ []) $ split ! $ move ! (1 ∷ []) $ split ! $ move ! (1 ∷ []) $ split ! $ move ! (1 ∷ []) $ split ! $ move ! (1 ∷ []) $ split ! $ move ! (1 ∷ []) $ split ! $ move ! (1 ∷ []) $ split ! $ move ! (1 ∷ []) $ drop ! $
+      lft-new ! tt (λ ν13. move ! (13 ∷ []) $ use1 W (later (some (λ (δ13 : GName). ‵ (MutRef (named 13) (ν13 ∷ []) (Array u16 64) .own (x13 (δ13)) (vptr b-right (o-right + 0) ∷ [])) ⊛ ‵ (flent (ν13 ∷ []) (Body (mem (Array u16 64)) b-right (o-right + 0) (δ13)))))) (lends-ref 𝓤 H A W (Array u16 64) (named 13) (ν13 ∷ []) (right .number) b-right (o-right + 0)) $ await ! tt $ pick ! (λ δ13. split ! $
+      lft-new ! tt (λ ν14. move ! (15 ∷ []) $ use1 W (later (some (λ (δ14 : GName). ‵ (MutRef (named 14) (ν14 ∷ []) (Array u8 64) .own (x14 (δ14)) (vptr b-right (o-right + 128) ∷ [])) ⊛ ‵ (flent (ν14 ∷ []) (Body (mem (Array u8 64)) b-right (o-right + 128) (δ14)))))) (lends-ref 𝓤 H A W (Array u8 64) (named 14) (ν14 ∷ []) (right .ints) b-right (o-right + 128)) $ await ! tt $ pick ! (λ δ14. split ! $
+      lft-new ! tt (λ ν15. move ! (17 ∷ []) $ use1 W (later (some (λ (δ15 : GName). ‵ (MutRef (named 15) (ν15 ∷ []) (Array u8 64) .own (x15 (δ15)) (vptr b-right (o-right + 192) ∷ [])) ⊛ ‵ (flent (ν15 ∷ []) (Body (mem (Array u8 64)) b-right (o-right + 192) (δ15)))))) (lends-ref 𝓤 H A W (Array u8 64) (named 15) (ν15 ∷ []) (right .exts) b-right (o-right + 192)) $ await ! tt $ pick ! (λ δ15. split ! $
+      lft-new ! tt (λ ν16. move ! (19 ∷ []) $ use1 W (later (some (λ (δ16 : GName). ‵ (MutRef (named 16) (ν16 ∷ []) (Array u8 32768) .own (x16 (δ16)) (vptr b-right (o-right + 256) ∷ [])) ⊛ ‵ (flent (ν16 ∷ []) (Body (mem (Array u8 32768)) b-right (o-right + 256) (δ16)))))) (lends-ref 𝓤 H A W (Array u8 32768) (named 16) (ν16 ∷ []) (right .accounts) b-right (o-right + 256)) $ await ! tt $ pick ! (λ δ16. split ! $
+      lft-new ! tt (λ ν17. move ! (21 ∷ []) $ use1 W (later (some (λ (δ17 : GName). ‵ (MutRef (named 17) (ν17 ∷ []) (Array u8 1024) .own (x17 (δ17)) (vptr b-right (o-right + 33024) ∷ [])) ⊛ ‵ (flent (ν17 ∷ []) (Body (mem (Array u8 1024)) b-right (o-right + 33024) (δ17)))))) (lends-ref 𝓤 H A W (Array u8 1024) (named 17) (ν17 ∷ []) (right .home) b-right (o-right + 33024)) $ await ! tt $ pick ! (λ δ17. split ! $
+      lft-new ! tt (λ ν18. move ! (23 ∷ []) $ use1 W (later (some (λ (δ18 : GName). ‵ (MutRef (named 18) (ν18 ∷ []) (Array u16 1024) .own (x18 (δ18)) (vptr b-right (o-right + 34048) ∷ [])) ⊛ ‵ (flent (ν18 ∷ []) (Body (mem (Array u16 1024)) b-right (o-right + 34048) (δ18)))))) (lends-ref 𝓤 H A W (Array u16 1024) (named 18) (ν18 ∷ []) (right .owner) b-right (o-right + 34048)) $ await ! tt $ pick ! (λ δ18. split ! $
+      lft-new ! tt (λ ν19. move ! (25 ∷ []) $ use1 W (later (some (λ (δ19 : GName). ‵ (MutRef (named 19) (ν19 ∷ []) (Array u8 1024) .own (x19 (δ19)) (vptr b-right (o-right + 36096) ∷ [])) ⊛ ‵ (flent (ν19 ∷ []) (Body (mem (Array u8 1024)) b-right (o-right + 36096) (δ19)))))) (lends-ref 𝓤 H A W (Array u8 1024) (named 19) (ν19 ∷ []) (right .kind) b-right (o-right + 36096)) $ await ! tt $ pick ! (λ δ19. split ! $
+      lft-new ! tt (λ ν20. move ! (27 ∷ []) $ use1 W (later (some (λ (δ20 : GName). ‵ (MutRef (named 20) (ν20 ∷ []) (Array u8 1024) .own (x20 (δ20)) (vptr b-right (o-right + 37120) ∷ [])) ⊛ ‵ (flent (ν20 ∷ []) (Body (mem (Array u8 1024)) b-right (o-right + 37120) (δ20)))))) (lends-ref 𝓤 H A W (Array u8 1024) (named 20) (ν20 ∷ []) (right .form) b-right (o-right + 37120)) $ await ! tt $ pick ! (λ δ20. split ! $
+      lft-new ! tt (λ ν21. move ! (29 ∷ []) $ use1 W (later (some (λ (δ21 : GName). ‵ (MutRef (named 21) (ν21 ∷ []) (Array u64 1024) .own (x21 (δ21)) (vptr b-right (o-right + 38144) ∷ [])) ⊛ ‵ (flent (ν21 ∷ []) (Body (mem (Array u64 1024)) b-right (o-right + 38144) (δ21)))))) (lends-ref 𝓤 H A W (Array u64 1024) (named 21) (ν21 ∷ []) (right .time) b-right (o-right + 38144)) $ await ! tt $ pick ! (λ δ21. split ! $
+      lft-new ! tt (λ ν22. move ! (31 ∷ []) $ use1 W (later (some (λ (δ22 : GName). ‵ (MutRef (named 22) (ν22 ∷ []) (Array u8 32768) .own (x22 (δ22)) (vptr b-right (o-right + 46336) ∷ [])) ⊛ ‵ (flent (ν22 ∷ []) (Body (mem (Array u8 32768)) b-right (o-right + 46336) (δ22)))))) (lends-ref 𝓤 H A W (Array u8 32768) (named 22) (ν22 ∷ []) (right .address) b-right (o-right + 46336)) $ await ! tt $ pick ! (λ δ22. split ! $
+      lft-new ! tt (λ ν23. move ! (33 ∷ []) $ use1 W (later (some (λ (δ23 : GName). ‵ (MutRef (named 23) (ν23 ∷ []) (Array u8 32768) .own (x23 (δ23)) (vptr b-right (o-right + 79104) ∷ [])) ⊛ ‵ (flent (ν23 ∷ []) (Body (mem (Array u8 32768)) b-right (o-right + 79104) (δ23)))))) (lends-ref 𝓤 H A W (Array u8 32768) (named 23) (ν23 ∷ []) (right .hash) b-right (o-right + 79104)) $ await ! tt $ pick ! (λ δ23. split ! $
+      lft-new ! tt (λ ν24. move ! (35 ∷ []) $ use1 W (later (some (λ (δ24 : GName). ‵ (MutRef (named 24) (ν24 ∷ []) (Array u32 1088) .own (x24 (δ24)) (vptr b-right (o-right + 111872) ∷ [])) ⊛ ‵ (flent (ν24 ∷ []) (Body (mem (Array u32 1088)) b-right (o-right + 111872) (δ24)))))) (lends-ref 𝓤 H A W (Array u32 1088) (named 24) (ν24 ∷ []) (right .buckets) b-right (o-right + 111872)) $ await ! tt $ pick ! (λ δ24. split ! $
       lft-new ! tt (λ ν25. move ! (37 ∷ []) $ use1 W (later (some (λ (δ25 : GName). ‵ (MutRef (named 25) (ν25 ∷ []) (Array u64 16) .own (x25 (δ25)) (vptr b-right (o-right + 116224) ∷ [])) ⊛ ‵ (flent (ν25 ∷ []) (Body (mem (Array u64 16)) b-right (o-right + 116224) (δ25)))))) (lends-ref 𝓤 H A W (Array u64 16) (named 25) (ν25 ∷ []) (right .numbers) b-right (o-right + 116224)) $ await ! tt $ pick ! (λ δ25. split ! $
       at-once ! $ show ! (λ (n-right : Names-right). mean 𝓤 H A (Refs-right n-right ⊛ (Tokens-right n-right ⊛ Kept-right n-right))) (record { ν13 = ν13; ν14 = ν14; ν15 = ν15; ν16 = ν16; ν17 = ν17; ν18 = ν18; ν19 = ν19; ν20 = ν20; ν21 = ν21; ν22 = ν22; ν23 = ν23; ν24 = ν24; ν25 = ν25; δ13 = δ13; δ14 = δ14; δ15 = δ15; δ16 = δ16; δ17 = δ17; δ18 = δ18; δ19 = δ19; δ20 = δ20; δ21 = δ21; δ22 = δ22; δ23 = δ23; δ24 = δ24; δ25 = δ25 }) $ move ! (41 ∷ 42 ∷ []) $ join ! $ move ! (41 ∷ 0 ∷ []) $ join ! $ move ! (40 ∷ 0 ∷ []) $ join ! $ move ! (2 ∷ 0 ∷ []) $ join ! $ move ! (4 ∷ 0 ∷ []) $ join ! $ move ! (6 ∷ 0 ∷ []) $ join ! $ move ! (8 ∷ 0 ∷ []) $ join ! $ move ! (10 ∷ 0 ∷ []) $ join ! $ move ! (12 ∷ 0 ∷ []) $ join ! $ move ! (14 ∷ 0 ∷ []) $ join ! $ move ! (16 ∷ 0 ∷ []) $ join ! $ move ! (18 ∷ 0 ∷ []) $ join ! $ move ! (20 ∷ 0 ∷ []) $ join ! $ move ! (22 ∷ 0 ∷ []) $ join ! $ move ! (24 ∷ 0 ∷ []) $ join ! $ move ! (26 ∷ 0 ∷ []) $ join ! $ move ! (4 ∷ 2 ∷ []) $ join ! $ move ! (5 ∷ 0 ∷ []) $ join ! $ move ! (6 ∷ 0 ∷ []) $ join ! $ move ! (7 ∷ 0 ∷ []) $ join ! $ move ! (8 ∷ 0 ∷ []) $ join ! $ move ! (9 ∷ 0 ∷ []) $ join ! $ move ! (10 ∷ 0 ∷ []) $ join ! $ move ! (11 ∷ 0 ∷ []) $ join ! $ move ! (12 ∷ 0 ∷ []) $ join ! $ move ! (13 ∷ 0 ∷ []) $ join ! $ move ! (14 ∷ 0 ∷ []) $ join ! $ move ! (15 ∷ 0 ∷ []) $ join ! $ move ! (3 ∷ 2 ∷ []) $ join ! $ move ! (3 ∷ 0 ∷ []) $ join ! $ move ! (3 ∷ 0 ∷ []) $ join ! $ move ! (3 ∷ 0 ∷ []) $ join ! $ move ! (3 ∷ 0 ∷ []) $ join ! $ move ! (3 ∷ 0 ∷ []) $ join ! $ move ! (3 ∷ 0 ∷ []) $ join ! $ move ! (3 ∷ 0 ∷ []) $ join ! $ move ! (3 ∷ 0 ∷ []) $ join ! $ move ! (3 ∷ 0 ∷ []) $ join ! $ move ! (3 ∷ 0 ∷ []) $ join ! $ move ! (3 ∷ 0 ∷ []) $ join ! $ move ! (1 ∷ 2 ∷ []) $ join ! $ move ! (1 ∷ 0 ∷ []) $ join ! $ done !))))))))))))))))))))))))))
 
@@ -341,7 +341,7 @@ module _ {M : Type 1} (𝓤 : URA M) (H : Heap 𝓤) (A : Atoms 𝓤) (W : Given
       move ! (15 ∷ []) $ lft-end ! tt $ move ! (0 ∷ 22 ∷ 13 ∷ []) $ use3 W (later (‵ (partAt (Array u8 32768) fullShare right·hash b-right (o-right + 79104)))) (ref-back 𝓤 H A W (Array u8 32768) (n-right .ν23 ∷ []) (n-right .δ23) right·hash b-right (o-right + 79104)) $ await ! tt $
       move ! (13 ∷ []) $ lft-end ! tt $ move ! (0 ∷ 20 ∷ 12 ∷ []) $ use3 W (later (‵ (partAt (Array u32 1088) fullShare right·buckets b-right (o-right + 111872)))) (ref-back 𝓤 H A W (Array u32 1088) (n-right .ν24 ∷ []) (n-right .δ24) right·buckets b-right (o-right + 111872)) $ await ! tt $
       move ! (13 ∷ []) $ lft-end ! tt $ move ! (0 ∷ 18 ∷ 13 ∷ []) $ use3 W (later (‵ (partAt (Array u64 16) fullShare right·numbers b-right (o-right + 116224)))) (ref-back 𝓤 H A W (Array u64 16) (n-right .ν25 ∷ []) (n-right .δ25) right·numbers b-right (o-right + 116224)) $ await ! tt $
-      move ! (0 ∷ 16 ∷ []) $ join ! $ move ! (1 ∷ 0 ∷ []) $ join ! $ move ! (1 ∷ 0 ∷ []) $ join ! $ move ! (1 ∷ 0 ∷ []) $ join ! $ move ! (1 ∷ 0 ∷ []) $ join ! $ move ! (1 ∷ 0 ∷ []) $ join ! $ move ! (1 ∷ 0 ∷ []) $ join ! $ move ! (1 ∷ 0 ∷ []) $ join ! $ move ! (1 ∷ 0 ∷ []) $ join ! $ move ! (1 ∷ 0 ∷ []) $ join ! $ move ! (1 ∷ 0 ∷ []) $ join ! $ move ! (1 ∷ 0 ∷ []) $ join ! $ move ! (1 ∷ 0 ∷ []) $ join ! $ use1 W (‵ (partAt Group.the-row fullShare (record { number = right·number; ints = right·ints; exts = right·exts; accounts = right·accounts; home = right·home; owner = right·owner; kind = right·kind; form = right·form; time = right·time; address = right·address; hash = right·hash; buckets = right·buckets; numbers = right·numbers }) b-right o-right)) (group-together 𝓤 H A W (record { number = right·number; ints = right·ints; exts = right·exts; accounts = right·accounts; home = right·home; owner = right·owner; kind = right·kind; form = right·form; time = right·time; address = right·address; hash = right·hash; buckets = right·buckets; numbers = right·numbers }) b-right o-right) $ move ! (0 ∷ 3 ∷ 1 ∷ 2 ∷ []) $ close-ref ! tt (mem Group.the-row) (record { number = right·number; ints = right·ints; exts = right·exts; accounts = right·accounts; home = right·home; owner = right·owner; kind = right·kind; form = right·form; time = right·time; address = right·address; hash = right·hash; buckets = right·buckets; numbers = right·numbers }) {b = b-right} {o = o-right} $ at-once ! $ move ! (1 ∷ 2 ∷ []) $ join ! $ move ! (1 ∷ 0 ∷ []) $ join ! $ done !
+      nothing ! $ move ! (1 ∷ 0 ∷ []) $ join ! $ move ! (1 ∷ 0 ∷ []) $ join ! $ move ! (1 ∷ 0 ∷ []) $ join ! $ move ! (1 ∷ 0 ∷ []) $ join ! $ move ! (1 ∷ 0 ∷ []) $ join ! $ move ! (1 ∷ 0 ∷ []) $ join ! $ move ! (1 ∷ 0 ∷ []) $ join ! $ move ! (1 ∷ 0 ∷ []) $ join ! $ move ! (1 ∷ 0 ∷ []) $ join ! $ move ! (1 ∷ 0 ∷ []) $ join ! $ move ! (1 ∷ 0 ∷ []) $ join ! $ move ! (1 ∷ 0 ∷ []) $ join ! $ move ! (1 ∷ 0 ∷ []) $ join ! $ move ! (0 ∷ 4 ∷ []) $ use2 W (‵ (partAt Group.the-row fullShare (record { number = right·number; ints = right·ints; exts = right·exts; accounts = right·accounts; home = right·home; owner = right·owner; kind = right·kind; form = right·form; time = right·time; address = right·address; hash = right·hash; buckets = right·buckets; numbers = right·numbers }) b-right o-right)) (group-together 𝓤 H A W (record { number = right·number; ints = right·ints; exts = right·exts; accounts = right·accounts; home = right·home; owner = right·owner; kind = right·kind; form = right·form; time = right·time; address = right·address; hash = right·hash; buckets = right·buckets; numbers = right·numbers }) b-right o-right) $ move ! (0 ∷ 3 ∷ 1 ∷ 2 ∷ []) $ close-ref ! tt (mem Group.the-row) (record { number = right·number; ints = right·ints; exts = right·exts; accounts = right·accounts; home = right·home; owner = right·owner; kind = right·kind; form = right·form; time = right·time; address = right·address; hash = right·hash; buckets = right·buckets; numbers = right·numbers }) {b = b-right} {o = o-right} $ at-once ! $ move ! (1 ∷ 2 ∷ []) $ join ! $ move ! (1 ∷ 0 ∷ []) $ join ! $ done !
 
   goes-to-core : Req → (n-left : Names-left) (n-right : Names-right) → ent 𝓤 (mean 𝓤 H A (Refs-left n-left ⊛ Tokens-left n-left ⊛ Refs-right n-right ⊛ Tokens-right n-right)) (Core 𝓤 H A at-mem run .pre (to-core n-left n-right))
   goes-to-core pre n-left n-right =

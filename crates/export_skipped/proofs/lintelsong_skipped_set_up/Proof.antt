@@ -16,7 +16,7 @@ use prog.Wp.{Heap, Calls, Loops, WpFn, Tables}
 use ghost.Atoms.{Atoms}
 use contract.Monad.{Fun, fact}
 use contract.Running.{givenOf, tables, tablesOf}
-use types.Kit.{Given, Item, ‵, raw, some, later, mean, _⊛_, ⋆, _$_, _∵_, !, qed, by, move, keep, drop, use1, use3, split, join, pick, rewrite, fsplit, fsplit3, fjoin, fjoin3, feqI, suffices, frame, await, updating, now as at-once, show, done}
+use types.Kit.{Given, Item, ‵, raw, some, later, mean, _⊛_, ⋆, _$_, _∵_, !, qed, by, move, keep, drop, use1, use2, use3, split, join, pick, rewrite, fsplit, fsplit3, fjoin, fjoin3, feqI, suffices, frame, await, updating, now as at-once, show, done}
 use types.Run.{look, init, forget, stop, hop, fld, from, load, addr, and-then, no-more, assigns, land, returns, enter, alloc1, alloc0, params1, pass1, pass0, free1, free0}
 use types.Mut.{open-ref, close-ref}
 use types.SemTy.{Body}
@@ -108,8 +108,8 @@ module _ {M : Type 1} (𝓤 : URA M) (H : Heap 𝓤) (A : Atoms 𝓤) (W : Given
   lend-s : ent 𝓤 (mean 𝓤 H A (‵ (fobs γ-s (Skipped.the-row .coded .code s)) ⊛ ‵ (fbor κ-s (Body (mem Skipped.the-row) b-s o-s γ-s)) ⊛ ‵ (flft κ-s q-s))) (mean 𝓤 H A (later (some (λ (n-s : Names-s). Refs-s n-s ⊛ (Tokens-s n-s ⊛ Kept-s n-s)))))
   lend-s =
       qed W ((‵ (fobs γ-s (Skipped.the-row .coded .code s)) ⊛ ‵ (fbor κ-s (Body (mem Skipped.the-row) b-s o-s γ-s)) ⊛ ‵ (flft κ-s q-s)) ∷ []) ∵
-      updating ! $ split ! $ move ! (1 ∷ []) $ split ! $ move ! (2 ∷ 0 ∷ 1 ∷ []) $ open-ref ! tt (mem Skipped.the-row) {x = s} {b = b-s} {o = o-s} $ use1 W (‵ (partAt (Array u8 16384) fullShare (s .accounts) b-s (o-s + 0)) ⊛ ‵ (partAt u64 fullShare (s .held) b-s (o-s + 16384)) ⊛ raw (SkippedBack 𝓤 H A b-s o-s)) (skipped-apart 𝓤 H A W s b-s o-s) $ split ! $ move ! (1 ∷ []) $ split ! $
-      lft-new ! tt (λ ν0. move ! (3 ∷ []) $ use1 W (later (some (λ (δ0 : GName). ‵ (MutRef (named 0) (ν0 ∷ []) (Array u8 16384) .own (x0 (δ0)) (vptr b-s (o-s + 0) ∷ [])) ⊛ ‵ (flent (ν0 ∷ []) (Body (mem (Array u8 16384)) b-s (o-s + 0) (δ0)))))) (lends-ref 𝓤 H A W (Array u8 16384) (named 0) (ν0 ∷ []) (s .accounts) b-s (o-s + 0)) $ await ! tt $ pick ! (λ δ0. split ! $
+      updating ! $ split ! $ move ! (1 ∷ []) $ split ! $ move ! (2 ∷ 0 ∷ 1 ∷ []) $ open-ref ! tt (mem Skipped.the-row) {x = s} {b = b-s} {o = o-s} $ use1 W ((‵ (partAt (Array u8 16384) fullShare (s .accounts) b-s (o-s + 0)) ⊛ ‵ (partAt u64 fullShare (s .held) b-s (o-s + 16384)) ⊛ ‵ (ftrue)) ⊛ raw (SkippedBack 𝓤 H A b-s o-s)) (skipped-apart 𝓤 H A W s b-s o-s) $ split ! $ split ! $ move ! (1 ∷ []) $ split ! $ move ! (1 ∷ []) $ drop ! $
+      lft-new ! tt (λ ν0. move ! (2 ∷ []) $ use1 W (later (some (λ (δ0 : GName). ‵ (MutRef (named 0) (ν0 ∷ []) (Array u8 16384) .own (x0 (δ0)) (vptr b-s (o-s + 0) ∷ [])) ⊛ ‵ (flent (ν0 ∷ []) (Body (mem (Array u8 16384)) b-s (o-s + 0) (δ0)))))) (lends-ref 𝓤 H A W (Array u8 16384) (named 0) (ν0 ∷ []) (s .accounts) b-s (o-s + 0)) $ await ! tt $ pick ! (λ δ0. split ! $
       lft-new ! tt (λ ν1. move ! (4 ∷ []) $ use1 W (later (some (λ (δ1 : GName). ‵ (MutRef (named 1) (ν1 ∷ []) u64 .own (x1 (δ1)) (vptr b-s (o-s + 16384) ∷ [])) ⊛ ‵ (flent (ν1 ∷ []) (Body (mem u64) b-s (o-s + 16384) (δ1)))))) (lends-ref 𝓤 H A W u64 (named 1) (ν1 ∷ []) (s .held) b-s (o-s + 16384)) $ await ! tt $ pick ! (λ δ1. split ! $
       at-once ! $ show ! (λ (n-s : Names-s). mean 𝓤 H A (Refs-s n-s ⊛ (Tokens-s n-s ⊛ Kept-s n-s))) (record { ν0 = ν0; ν1 = ν1; δ0 = δ0; δ1 = δ1 }) $ move ! (8 ∷ 9 ∷ []) $ join ! $ move ! (8 ∷ 0 ∷ []) $ join ! $ move ! (7 ∷ 0 ∷ []) $ join ! $ move ! (2 ∷ 0 ∷ []) $ join ! $ move ! (4 ∷ 0 ∷ []) $ join ! $ move ! (4 ∷ 2 ∷ []) $ join ! $ move ! (3 ∷ 2 ∷ []) $ join ! $ move ! (1 ∷ 2 ∷ []) $ join ! $ move ! (1 ∷ 0 ∷ []) $ join ! $ done !))))
 
@@ -119,7 +119,7 @@ module _ {M : Type 1} (𝓤 : URA M) (H : Heap 𝓤) (A : Atoms 𝓤) (W : Given
       updating ! $ split ! $ move ! (1 ∷ []) $ split ! $ move ! (2 ∷ []) $ split ! $ move ! (1 ∷ []) $ split ! $ move ! (1 ∷ []) $ split ! $ move ! (1 ∷ []) $ split ! $ move ! (1 ∷ []) $ split ! $ move ! (6 ∷ []) $ split ! $ move ! (8 ∷ []) $ split ! $
       move ! (2 ∷ []) $ lft-end ! tt $ move ! (0 ∷ 9 ∷ 1 ∷ []) $ use3 W (later (‵ (partAt (Array u8 16384) fullShare s·accounts b-s (o-s + 0)))) (ref-back 𝓤 H A W (Array u8 16384) (n-s .ν0 ∷ []) (n-s .δ0) s·accounts b-s (o-s + 0)) $ await ! tt $
       move ! (2 ∷ []) $ lft-end ! tt $ move ! (0 ∷ 7 ∷ 2 ∷ []) $ use3 W (later (‵ (partAt u64 fullShare s·held b-s (o-s + 16384)))) (ref-back 𝓤 H A W u64 (n-s .ν1 ∷ []) (n-s .δ1) s·held b-s (o-s + 16384)) $ await ! tt $
-      move ! (0 ∷ 5 ∷ []) $ join ! $ move ! (1 ∷ 0 ∷ []) $ join ! $ use1 W (‵ (partAt Skipped.the-row fullShare (record { accounts = s·accounts; held = s·held }) b-s o-s)) (skipped-together 𝓤 H A W (record { accounts = s·accounts; held = s·held }) b-s o-s) $ move ! (0 ∷ 3 ∷ 1 ∷ 2 ∷ []) $ close-ref ! tt (mem Skipped.the-row) (record { accounts = s·accounts; held = s·held }) {b = b-s} {o = o-s} $ at-once ! $ move ! (1 ∷ 2 ∷ []) $ join ! $ move ! (1 ∷ 0 ∷ []) $ join ! $ done !
+      nothing ! $ move ! (1 ∷ 0 ∷ []) $ join ! $ move ! (1 ∷ 0 ∷ []) $ join ! $ move ! (0 ∷ 4 ∷ []) $ use2 W (‵ (partAt Skipped.the-row fullShare (record { accounts = s·accounts; held = s·held }) b-s o-s)) (skipped-together 𝓤 H A W (record { accounts = s·accounts; held = s·held }) b-s o-s) $ move ! (0 ∷ 3 ∷ 1 ∷ 2 ∷ []) $ close-ref ! tt (mem Skipped.the-row) (record { accounts = s·accounts; held = s·held }) {b = b-s} {o = o-s} $ at-once ! $ move ! (1 ∷ 2 ∷ []) $ join ! $ move ! (1 ∷ 0 ∷ []) $ join ! $ done !
 
   goes-to-core : (n-s : Names-s) → ent 𝓤 (mean 𝓤 H A (Refs-s n-s ⊛ Tokens-s n-s)) (Core 𝓤 H A at-mem run .pre (to-core n-s))
   goes-to-core n-s =

@@ -8,7 +8,7 @@ returns : tie.Need-returns
 returns c =
     let f = c .before in
     let r = f .before .before .before .before .before .before .before .before .before .before .before .before .before .before in
-    set-up (r .before .args .s) (r .room-for .ensures) (f .fresh .ensures) (c .code-for .ensures)
+    set-up (r .before .args .s) (r .slots-for .ensures) (f .fresh .ensures) (c .number-of .ensures)
 
 pub set-up-spec : {M : Type 1} → statement M
 set-up-spec =

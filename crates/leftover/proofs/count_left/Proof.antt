@@ -1,4 +1,7 @@
 -- `leftover::count_left` meets its contract, with an account left and without. Assumes nothing.
+use mathlib.Core.Path.{_≡_}
+use mathlib.Core.Bool.{true, false}
+use lib.Dec.{eqb}
 use borrow.Author.Tests.{eq-eqb, ne-eqb}
 use borrow.Author.Needs.{needs}
 use Rattle.settle.specs.Ends.{leftCounts}
@@ -7,11 +10,11 @@ use Rattle.leftover.proofs.count_left.Tie as tie
 
 returns : tie.Need-returns
 unfolding leftCounts
-returns c = rw (eq-eqb _ _ (c .if1 .taken))
+returns c = let p : eqb (c .before .args .b) 0 ≡ true = eq-eqb _ 0 (c .if1 .taken) in rw p
 
 returns-2 : tie.Need-returns-2
 unfolding leftCounts
-returns-2 c = rw (ne-eqb _ _ (c .if1 .left))
+returns-2 c = let p : eqb (c .before .args .b) 0 ≡ false = ne-eqb _ 0 (c .if1 .left) in rw p
 
 pub count-left-spec : {M : Type 1} → statement M
 count-left-spec =

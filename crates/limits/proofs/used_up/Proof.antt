@@ -1,5 +1,6 @@
 -- `limits::used_up` meets its contract: each way out rewrites by its test. Assumes nothing.
-use mathlib.Core.Path.{sym, _∙_}
+use mathlib.Core.Path.{_≡_, sym, _∙_}
+use Prim.Native.Nat.{_-_}
 use native.Mathlib.Omega.{arith}
 use borrow.Author.Needs.{needs}
 use borrow.Author.Tests.{lt-ltb}
@@ -9,12 +10,16 @@ use Rattle.limits.proofs.used_up.Tie as tie
 
 returns : tie.Need-returns
 unfolding usedUp
-returns c = rw (sym (c .before .to-open .ensures) ∙ c .if1 .taken)
+returns c =
+    let a = c .before .before .args in
+    let p : a .asked - a .slots ≡ 0 = sym (c .before .to-open .ensures) ∙ c .if1 .taken in
+    rw p
 
 returns-2 : tie.Need-returns-2
 unfolding usedUp
 returns-2 c =
-    let o = c .before .to-open .ensures in
+    let a = c .before .before .args in
+    let o : c .before .to-open .result ≡ a .asked - a .slots = c .before .to-open .ensures in
     rw (← o, lt-ltb 0 (c .before .to-open .result) (omega (arith, c .if1 .left)))
 
 pub used-up-spec : {M : Type 1} → statement M

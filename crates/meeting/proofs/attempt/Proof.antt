@@ -24,16 +24,15 @@ returns c =
 
 move-to-requires : tie.Need-move-to-requires
 move-to-requires c κs =
-    let st = c .before .before .before .before .before .before .before .before .before .before .before .before in
+    let st = c .before .before .before .before .before .before .before .before .before .before in
     let store = check-store (st .args .plan .now) (st .args .cost .now) (st .args .fixed) (st .args .slot) (st .args .party) _ (st .pre .0)
-    (c .before .before .before .before .before .before .before .check .ensures) in
+    (c .before .before .before .before .before .check .ensures) in
     (store, (st .pre .1, st .pre .0 .linked))
 
 returns-2 : tie.Need-returns-2
 returns-2 c =
-    try-move _ _ _ _ _ _ (sym (c .before .before .before .before .before .before .before .before .before .before .before .skips .ensures)
-    ∙ c .before .before .before .before .before .before .before .if1 .left) (c .before .before .before .before .before .before .before .before
-    .check .ensures)
+    try-move _ _ _ _ _ _ (sym (c .before .before .before .before .before .before .before .before .before .skips .ensures) ∙ c .before .before .before .before .before .if1 .left)
+    (c .before .before .before .before .before .before .check .ensures)
     (c .move-to .ensures)
 
 pub attempt-spec : {M : Type 1} → statement M

@@ -13,10 +13,10 @@ returns : tie.Need-returns
 returns c = meet-pass _ _ _ _ _ _ (c .before .before .if1 .taken) (c .pass-over .ensures)
 
 attempt-requires : tie.Need-attempt-requires
-attempt-requires c κs = c .before .before .before .before .before .before .before .before .before .before .pre
+attempt-requires c κs = c .before .before .before .before .before .before .before .before .pre
 
 returns-2 : tie.Need-returns-2
-returns-2 c = meet-try _ _ _ _ _ _ (c .before .before .before .before .before .before .before .before .before .if1 .left) (c .attempt .ensures)
+returns-2 c = meet-try _ _ _ _ _ _ (c .before .before .before .before .before .before .before .if1 .left) (c .attempt .ensures)
 
 pub meet-spec : {M : Type 1} → statement M
 meet-spec =

@@ -1,29 +1,33 @@
 -- `openings::first` meets its contract: what the openings that are left make of the columns now is what all of them make of those at entry;
--- no more slots wait than were opened. Assumes nothing.
-use mathlib.Core.Path.{refl, ap}
+-- no more slots wait than were opened. The record of a slot that is opened is written back into the table (crate `serving`, proofs/Records).
+-- Assumes nothing.
+use mathlib.Core.Path.{refl, ap, _∙_}
 use mathlib.Core.Logic.{⊎-elim}
 use mathlib.Core.List.{[]}
 use native.Mathlib.Nat.{not-suc-le-zero}
 use native.Mathlib.Omega.{arith}
 use borrow.Author.Needs.{needs}
 use borrow.Author.Tests.{not-true, not-false}
+use Rattle.slot_rows.specs.Rows.{intsOf, extsOf}
 use Rattle.meaning.specs.Meaning.{columns}
+use Rattle.meaning.specs.Walks.{fullC}
 use Rattle.meaning.specs.Passes.{firstC}
 use Rattle.new_slots.specs.declared.Front.{Front}
-use Rattle.openings.proofs.Steps.{First, first-end, sought, first-drops, first-full, first-waits}
+use Rattle.serving.proofs.Records.{ready-record, seek-record, held-record}
+use Rattle.openings.proofs.Steps.{First, first-end, here, first-drops, first-full, first-waits}
 use Rattle.openings.proofs.first.Statement.{statement}
 use Rattle.openings.proofs.first.Tie as tie
 
 abbrev Inv-loop : tie.InvT-loop
-Inv-loop owner₀ plan taken₀ home₀ member₀ ints₀ exts₀ mark₀ cost joined₀ number₀ fixed opens slots line₀ tail₀ at₀ now₀ front₀ owner
-    taken home member ints exts mark joined number line tail at now front =
+Inv-loop owner₀ plan taken₀ home₀ member₀ mark₀ cost joined₀ number₀ fixed opens slots line₀ tail₀ at₀ table₀ now₀ front₀ owner taken home member
+    mark joined number line tail at table now front =
     First plan cost fixed (firstC plan cost fixed opens [] number₀ slots (front₀ .given) 0
-    (columns owner₀ taken₀ home₀ member₀ ints₀ exts₀ mark₀ joined₀ now₀))
-    line tail (front .left) number (front .slot) (front .given) at (columns owner taken home member ints exts mark joined now)
+    (columns owner₀ taken₀ home₀ member₀ (intsOf table₀) (extsOf table₀) mark₀ joined₀ now₀))
+    line tail (front .left) number (front .slot) (front .given) at (columns owner taken home member (intsOf table) (extsOf table) mark joined now)
 
 abbrev μ-loop : tie.MeasureT-loop
-μ-loop owner₀ plan taken₀ home₀ member₀ ints₀ exts₀ mark₀ cost joined₀ number₀ fixed opens slots line₀ tail₀ at₀ now₀ front₀ owner taken
-    home member ints exts mark joined number line tail at now front =
+μ-loop owner₀ plan taken₀ home₀ member₀ mark₀ cost joined₀ number₀ fixed opens slots line₀ tail₀ at₀ table₀ now₀ front₀ owner taken home member
+    mark joined number line tail at table now front =
     front .left
 
 loop-holds : tie.Need-loop-holds Inv-loop μ-loop
@@ -44,92 +48,116 @@ next-number-requires c κs =
     (omega (arith, v .room, c .if1 .taken), omega (arith, v .high, c .if1 .taken))
 
 element-write-number : tie.Need-element-write-number Inv-loop μ-loop
-element-write-number c = omega (arith, c .before .before .before .loop .inv .room, c .before .if1 .taken)
+element-write-number c = here (c .before .before .before .loop .inv) (c .before .if1 .taken)
+
+mul-record : tie.Need-mul-record Inv-loop μ-loop
+mul-record c = omega (arith, here (c .before .before .before .loop .inv) (c .before .if1 .taken))
+
+array-copy-out-record : tie.Need-array-copy-out-record Inv-loop μ-loop
+array-copy-out-record c = here (c .before .before .before .loop .inv) (c .before .if1 .taken)
 
 seek-requires : tie.Need-seek-requires Inv-loop μ-loop
 seek-requires c κs =
-    let v = c .before .before .before .before .before .before .before .before .before .before .before .loop .inv in
-    (v .ready, omega (arith, v .room, c .before .before .before .before .before .before .before .before .before .if1 .taken))
+    let d = c .before .before .before .before .before .before .before .before in
+    let a = d .before .before .loop in
+    let sl = here (a .inv) (d .if1 .taken) in
+    (ready-record (a .table) (a .inv .ready) sl, sl)
 
-held-requires : tie.Need-held-requires Inv-loop μ-loop
-held-requires c κs =
-    let v = c .before .before .before .before .before .before .before .before .before .before .before .before .before .before .before .loop .inv in
-    let l = c .before .before .before .before .before .before .before .before .before .before .before .before .before .if1 .taken in
-    let ready = sought v l (c .before .before .before .seek .ensures) in
-    (omega (arith, v .room, l), (ready .good .store .ints-long, ready .good .store .exts-long))
+write-table-requires : tie.Need-write-table-requires Inv-loop μ-loop
+write-table-requires c κs =
+    let d = c .before .before .before .before .before .before .before .before .before .before in
+    here (d .before .before .loop .inv) (d .if1 .taken)
 
 element-write-number-2 : tie.Need-element-write-number-2 Inv-loop μ-loop
-element-write-number-2 c = omega (arith, c .before .before .before .before .before .before .before .before .before .before .before .before .before .before .before .before .before .loop .inv .room, c .before .before .before .before .before .before .before .before .before .before .before .before .before .before .before .if1 .taken)
+element-write-number-2 c =
+    let d = c .before .before .before .before .before .before .before .before .before .before .before .before .before .before in
+    here (d .before .before .loop .inv) (d .if1 .taken)
 
 dropped-requires : tie.Need-dropped-requires Inv-loop μ-loop
-dropped-requires c κs = omega (arith, c .before .before .before .before .before .before .before .before .before .before .before .before .before .before .before .before .before .loop .inv .high, c .before .before .before .before .before .before .before .before .before .before .before .before .before .before .before .if1 .taken)
+dropped-requires c κs =
+    let d = c .before .before .before .before .before .before .before .before .before .before .before .before .before .before in
+    omega (arith, d .before .before .loop .inv .high, d .if1 .taken)
 
 returns : tie.Need-returns Inv-loop μ-loop
 returns c =
-    rw (c .dropped .ensures, c .before .before .before .before .before .before .before .before .before .before .before .before .before .before .before .next-number .ensures)
-    (rw (c .before .before .before .before .before .before .before .before .before .before .before .before .before .before .before .before .before .before .before .wide16 .ensures .0) at
-    (first-drops (c .before .before .before .before .before .before .before .before .before .before .before .before .before .before .before .before .before .before .loop .inv) (c .before .before .before .before .before .before .before .before .before .before .before .before .before .before .before .before .if1 .taken)
-    (c .before .before .before .before .before .before .seek .ensures) (c .before .before .held .ensures) (c .before .if2 .taken)))
-
-full-requires : tie.Need-full-requires Inv-loop μ-loop
-full-requires c κs =
-    let v = c .before .before .before .before .before .before .before .before .before .before .before .before .before .before .before .before .before .before .before .loop .inv in
-    let l = c .before .before .before .before .before .before .before .before .before .before .before .before .before .before .before .before .before .if1 .taken in
-    let ready = sought v l (c .before .before .before .before .before .before .before .seek .ensures) in
-    (omega (arith, v .room, l), (ready .good .store .ints-long, ready .good .store .exts-long))
+    let k = c .before .before .before .before .before .before in
+    let d = c .before .before .before .before .before .before .before .before .before .before .before .before .before .before .before in
+    let a = d .before .before .loop in
+    let v = a .inv in
+    let l = d .if1 .taken in
+    let t = c .before .before .before .before .write-table .ensures in
+    let e = seek-record (a .table) (v .ready) (here v l) (k .seek .result .record) t _ (a .at) (k .seek .ensures) in
+    let n = c .before .before .held .ensures ∙ held-record (a .table) (v .ready) (here v l) (k .seek .result .record) t in
+    rw (c .dropped .ensures, k .before .before .before .before .before .before .before .before .next-number .ensures)
+    (rw (d .before .before .before .wide16 .ensures .0) at (first-drops v l e n (c .before .if2 .taken)))
 
 cast-line : tie.Need-cast-line Inv-loop μ-loop
-cast-line c = omega (arith, c .before .before .before .before .before .before .before .before .before .before .before .before .before .before .before .before .before .before .before .before .before .loop .inv .room, c .before .before .before .before .before .before .before .before .before .before .before .before .before .before .before .before .before .before .before .if1 .taken)
+cast-line c =
+    let d = c .before .before .before .before .before .before .before .before .before .before .before .before .before .before .before .before in
+    omega (arith, here (d .before .before .loop .inv) (d .if1 .taken))
 
 array-write-line : tie.Need-array-write-line Inv-loop μ-loop
 array-write-line c =
-    let v = c .before .before .before .before .before .before .before .before .before .before .before .before .before .before .before .before .before .before .before .before .before .loop .inv in
+    let v = c .before .before .before .before .before .before .before .before .before .before .before .before .before .before .before .before .before
+    .before .loop .inv in
     omega (arith, v .room, v .fits)
 
 add-tail : tie.Need-add-tail Inv-loop μ-loop
 add-tail c =
-    let v = c .before .before .before .before .before .before .before .before .before .before .before .before .before .before .before .before .before .before .before .before .before .loop .inv in
+    let v = c .before .before .before .before .before .before .before .before .before .before .before .before .before .before .before .before .before
+    .before .loop .inv in
     omega (arith, v .room, v .fits)
 
 onward-requires : tie.Need-onward-requires Inv-loop μ-loop
 onward-requires c κs =
-    let v = c .before .before .before .before .before .before .before .before .before .before .before .before .before .before .before .before .before .before .before .before .before .loop .inv in
-    let l = c .before .before .before .before .before .before .before .before .before .before .before .before .before .before .before .before .before .before .before .if1 .taken in
-    (omega (arith, v .room, l), omega (arith, v .high, l), l)
+    let d = c .before .before .before .before .before .before .before .before .before .before .before .before .before .before .before .before in
+    let v = d .before .before .loop .inv in
+    let l = d .if1 .taken in
+    (here v l, omega (arith, v .high, l), l)
 
 loop-less : tie.Need-loop-less Inv-loop μ-loop
-loop-less c = omega (arith, c .before .before .before .before .before .before .before .before .before .before .before .before .before .before .before .before .before .before .before .before .if1 .taken, ap (λ (x : Front). x .left) (c .onward .ensures))
+loop-less c =
+    let d = c .before .before .before .before .before .before .before .before .before .before .before .before .before .before .before .before .before
+    in
+    omega (arith, d .if1 .taken, ap (λ (x : Front). x .left) (c .onward .ensures))
 
 loop-again : tie.Need-loop-again Inv-loop μ-loop
 loop-again c =
-    let v = c .before .before .before .before .before .before .before .before .before .before .before .before .before .before .before .before .before .before .before .before .before .before .loop .inv in
-    let l = c .before .before .before .before .before .before .before .before .before .before .before .before .before .before .before .before .before .before .before .before .if1 .taken in
-    let n = c .before .before .before .before .before .before .before .before .before .before .before .before .before .before .before .before .before .before .before .next-number .ensures in
+    let f = c .before .before in
+    let k = c .before .before .before .before .before .before .before .before in
+    let d = c .before .before .before .before .before .before .before .before .before .before .before .before .before .before .before .before .before
+    in
+    let a = d .before .before .loop in
+    let v = a .inv in
+    let l = d .if1 .taken in
+    let t = f .before .before .before .before .write-table .ensures in
+    let e = seek-record (a .table) (v .ready) (here v l) (k .seek .result .record) t _ (a .at) (k .seek .ensures) in
+    let held = held-record (a .table) (v .ready) (here v l) (k .seek .result .record) t in
+    let n = f .before .before .held .ensures ∙ held in
+    let y = f .full .ensures ∙ ap (fullC _) held in
+    let given = k .before .before .before .before .before .before .before .before .next-number .ensures in
     ⊎-elim
-    (λ w. rw (c .onward .ensures, n, w .1, w .2)
-    (first-waits v l (c .before .before .before .before .before .before .before .before .before .before .seek .ensures) (c .before .before .before .before .before .before .held .ensures) (c .before .before .before .before .before .if2 .left) (c .before .before .full .ensures)
-    (not-true _ (w .0 .taken))))
-    (λ w. rw (c .onward .ensures, n, w .1, w .2)
-    (first-full v l (c .before .before .before .before .before .before .before .before .before .before .seek .ensures) (c .before .before .before .before .before .before .held .ensures) (c .before .before .before .before .before .if2 .left) (c .before .before .full .ensures)
-    (not-false _ (w .0 .left))))
+    (λ w. rw (c .onward .ensures, given, w .1, w .2) (first-waits v l e n (f .before .if2 .left) y (not-true _ (w .0 .taken))))
+    (λ w. rw (c .onward .ensures, given, w .1, w .2) (first-full v l e n (f .before .if2 .left) y (not-false _ (w .0 .left))))
     (c .before .if3 .came)
 
 serve-requires : tie.Need-serve-requires Inv-loop μ-loop
 serve-requires c κs =
-    let v = c .before .before .before .before .before .before .before .before .before .before .before .loop .inv in
+    let v = c .before .before .before .before .before .before .before .before .before .loop .inv in
     (v .ready, ((v .long, omega (arith, v .fits, v .room)), v .slots))
 
-cast-t60 : tie.Need-cast-t60 Inv-loop μ-loop
-cast-t60 c = omega (arith, c .before .before .before .before .before .before .before .before .before .before .before .before .before .before .loop .inv .high)
+cast-t62 : tie.Need-cast-t62 Inv-loop μ-loop
+cast-t62 c = omega (arith, c .before .before .before .before .before .before .before .before .before .before .before .before .before .loop .inv .high)
 
 returns-2 : tie.Need-returns-2 Inv-loop μ-loop
 returns-2 c =
-    rw (c .before .before .before .before .before .before .before .before .before .before .before .before .before .before .before .wide16 .ensures .0) at
-    (first-end (c .before .before .before .before .before .before .before .before .before .before .before .before .before .before .loop .inv) (omega (arith, c .before .before .before .before .before .before .before .before .before .before .before .before .if1 .left)) (c .before .before .serve .ensures))
+    let d = c .before .before .before .before .before .before .before .before .before .before .before in
+    rw (d .before .before .before .wide16 .ensures .0) at
+    (first-end (d .before .before .loop .inv) (omega (arith, d .if1 .left)) (c .before .before .before .serve .ensures))
 
 pub first-spec : {M : Type 1} → statement M
 first-spec =
     tie.close
-    (tie.spec Inv-loop μ-loop (λ c κs. search needs) loop-holds next-number-requires (λ c. search needs) element-write-number seek-requires
-    held-requires (λ c. search needs) element-write-number-2 dropped-requires returns full-requires cast-line array-write-line add-tail
-    onward-requires loop-less loop-again serve-requires cast-t60 returns-2)
+    (tie.spec Inv-loop μ-loop (λ c κs. search needs) loop-holds next-number-requires (λ c. search needs) element-write-number mul-record
+    array-copy-out-record seek-requires write-table-requires (λ c κs. search needs) (λ c. search needs) element-write-number-2 dropped-requires
+    returns (λ c κs. search needs) cast-line array-write-line add-tail onward-requires loop-less loop-again serve-requires cast-t62 returns-2)

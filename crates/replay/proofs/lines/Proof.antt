@@ -5,7 +5,6 @@ use mathlib.Core.Logic.{⊎-elim}
 use Prim.Native.Nat.{_-_, _<_, _≤_}
 use native.Mathlib.Omega.{arith}
 use lib.ListN.{length}
-use borrow.Author.Tests.{ltb-true}
 use Rattle.replay.specs.Runs.{Ready}
 use Rattle.replay.proofs.Going.{Kept, met, still, wrote}
 use Rattle.replay.proofs.lines.Statement.{statement}
@@ -21,44 +20,36 @@ abbrev μ-loop : tie.MeasureT-loop
     18446744073709551615 - c .number
 
 loop-holds : tie.Need-loop-holds Inv-loop μ-loop
-loop-holds c = (
-  record { buffer = c .before .before .before .fresh .ensures; shelf = c .before .fresh3 .ensures; tray = c .before .before .fresh2 .ensures; keys = c .before .before .before .before .before .before .before .before .before .before .pre },
-  omega (arith, c .fresh4 .ensures),
-  refl,
-  refl,
-  refl,
-  refl,
-  refl,
-  refl,
-)
+loop-holds c =
+    let p = c .before .before .before .before .before .before .pre in (p .0, omega (arith, p .1), refl, refl, refl, refl, refl, refl)
 
 take-requires : tie.Need-take-requires Inv-loop μ-loop
 take-requires c κs =
-    record { counted = ltb-true _ 18446744073709551615 (c .before .before .before .before .if1 .taken); within = c .before .before .before .before .before .before .before .loop .inv .1 }
+    record { counted = c .before .before .before .before .before .goes-on .ensures (c .before .before .before .before .if1 .taken); within = c .before .before .before .before .before .before .loop .inv .1 }
 
 -- ---- what each command asks for
 
 repeat-requires : tie.Need-repeat-requires Inv-loop μ-loop
-repeat-requires c κs = c .before .before .before .before .before .before .before .before .before .before .before .before .before .before .before .before .before .before .before .before .before .before .before .before .loop .inv .0 .buffer
+repeat-requires c κs = c .before .before .before .before .before .before .before .before .before .before .before .before .before .before .before .before .before .before .before .before .before .before .before .loop .inv .0 .buffer
 
 repeat-requires-2 : tie.Need-repeat-requires-2 Inv-loop μ-loop
-repeat-requires-2 c κs = let r = c .before .before .before .before .before .before .before .before .before .before .before .before .before .before .before .before .before .before .before .before .before .before .before .before .before .loop .inv .0 in (r .tray, r .keys)
+repeat-requires-2 c κs = let r = c .before .before .before .before .before .before .before .before .before .before .before .before .before .before .before .before .before .before .before .before .before .before .before .before .loop .inv .0 in (r .tray, r .keys)
 
 repeat-requires-3 : tie.Need-repeat-requires-3 Inv-loop μ-loop
-repeat-requires-3 c κs = c .before .before .before .before .before .before .before .before .before .before .before .before .before .before .before .before .before .before .before .before .before .before .before .loop .inv .0 .shelf
+repeat-requires-3 c κs = c .before .before .before .before .before .before .before .before .before .before .before .before .before .before .before .before .before .before .before .before .before .before .loop .inv .0 .shelf
 
 repeat-requires-4 : tie.Need-repeat-requires-4 Inv-loop μ-loop
-repeat-requires-4 c κs = let r = c .before .before .before .before .before .before .before .before .before .before .before .before .before .before .before .before .before .before .before .before .before .before .before .before .before .loop .inv .0 in (r .buffer, r .shelf, r .tray, r .keys)
+repeat-requires-4 c κs = let r = c .before .before .before .before .before .before .before .before .before .before .before .before .before .before .before .before .before .before .before .before .before .before .before .before .loop .inv .0 in (r .buffer, r .shelf, r .tray, r .keys)
 
 answer-requires : tie.Need-answer-requires Inv-loop μ-loop
-answer-requires c κs = let r = c .before .before .before .before .before .before .before .before .before .before .before .before .before .before .before .before .before .before .before .before .before .before .before .before .loop .inv .0 in (r .buffer, r .shelf)
+answer-requires c κs = let r = c .before .before .before .before .before .before .before .before .before .before .before .before .before .before .before .before .before .before .before .before .before .before .before .loop .inv .0 in (r .buffer, r .shelf)
 
 -- ---- where the commands meet
 
 kept : (c : tie.At-match2-came Inv-loop μ-loop)
-    → Kept (c .match2 .b) (c .match2 .s) (c .match2 .t) (c .match2 .lts) (c .match2 .hashes) (c .before .before .before .before .before .before .before .before .before .before .before .before .before .before .before .before .before .before .before .before .before .loop .lts) (c .before .before .before .before .before .before .before .before .before .before .before .before .before .before .before .before .before .before .before .before .before .loop .hashes)
+    → Kept (c .match2 .b) (c .match2 .s) (c .match2 .t) (c .match2 .lts) (c .match2 .hashes) (c .before .before .before .before .before .before .before .before .before .before .before .before .before .before .before .before .before .before .before .before .loop .lts) (c .before .before .before .before .before .before .before .before .before .before .before .before .before .before .before .before .before .before .before .before .loop .hashes)
 kept c =
-    let r = c .before .before .before .before .before .before .before .before .before .before .before .before .before .before .before .before .before .before .before .before .before .loop .inv .0 in
+    let r = c .before .before .before .before .before .before .before .before .before .before .before .before .before .before .before .before .before .before .before .before .loop .inv .0 in
     ⊎-elim (λ w. met (w .7) (w .8) (w .9) (w .10) (w .11) (still (w .4 .ensures) (r .shelf) (r .tray) (r .keys)))
     (⊎-elim (λ w. met (w .11) (w .12) (w .13) (w .14) (w .15) (wrote (r .buffer) (r .shelf) (w .5 .ensures) (r .keys) (w .5 .kept .1 .1 .1 .0) (w .5 .kept .1 .1 .1 .1 .0)))
     (⊎-elim (λ w. met (w .6) (w .7) (w .8) (w .9) (w .10) (still (r .buffer) (w .3 .ensures) (r .tray) (r .keys)))
@@ -66,7 +57,7 @@ kept c =
     (λ w. met (w .8) (w .9) (w .10) (w .11) (w .12) (still (r .buffer) (r .shelf) (r .tray) (r .keys))))))
     (c .match2 .came)
 
-line-kept : (c : tie.At-match2-came Inv-loop μ-loop) → length (c .match2 .line) ≡ length (c .before .before .before .before .before .before .before .before .before .before .before .before .before .before .before .before .before .before .before .before .before .loop .line)
+line-kept : (c : tie.At-match2-came Inv-loop μ-loop) → length (c .match2 .line) ≡ length (c .before .before .before .before .before .before .before .before .before .before .before .before .before .before .before .before .before .before .before .before .loop .line)
 line-kept c =
     let k = c .before .before .before .before .before .before .before .before .before .before .before .before .before .take .kept .1 .1 .1 .0 in
     ⊎-elim (λ w. ap length (w .6) ∙ k)
@@ -79,12 +70,12 @@ told-requires c κs = let r = kept (c .before .before .before .before) .ready in
 
 loop-less : tie.Need-loop-less Inv-loop μ-loop
 loop-less c =
-    omega (arith, c .with-pen .ensures .0, c .before .before .before .before .before .before .before .before .before .before .before .before .before .before .before .before .before .before .before .before .before .take .ensures .counted, ltb-true (c .before .before .before .before .before .before .before .before .before .before .before .before .before .before .before .before .before .before .before .before .before .before .before .before .before .before .before .before .before .loop .c .number) 18446744073709551615 (c .before .before .before .before .before .before .before .before .before .before .before .before .before .before .before .before .before .before .before .before .before .before .before .before .before .before .if1 .taken))
+    omega (arith, c .with-pen .ensures .0, c .before .before .before .before .before .before .before .before .before .before .before .before .before .before .before .before .before .before .before .before .before .take .ensures .counted, c .before .before .before .before .before .before .before .before .before .before .before .before .before .before .before .before .before .before .before .before .before .before .before .before .before .before .before .goes-on .ensures (c .before .before .before .before .before .before .before .before .before .before .before .before .before .before .before .before .before .before .before .before .before .before .before .before .before .before .if1 .taken))
 
 loop-again : tie.Need-loop-again Inv-loop μ-loop
 loop-again c =
     let k = c .before .before .before .before .before .before .before .before .before .before .before .before .before .before .before .before .before .before .before .before .before .take in
-    let v = c .before .before .before .before .before .before .before .before .before .before .before .before .before .before .before .before .before .before .before .before .before .before .before .before .before .before .before .before .before .loop .inv in
+    let v = c .before .before .before .before .before .before .before .before .before .before .before .before .before .before .before .before .before .before .before .before .before .before .before .before .before .before .before .before .loop .inv in
     let m = c .before .before .before .before .before .before .before .before in
     let r = kept m in (
       r .ready,
@@ -98,12 +89,12 @@ loop-again c =
     )
 
 loop-less-2 : tie.Need-loop-less-2 Inv-loop μ-loop
-loop-less-2 c = omega (arith, c .before .before .before .before .before .before .before .before .before .before .before .take .ensures .counted, ltb-true (c .before .before .before .before .before .before .before .before .before .before .before .before .before .before .before .before .before .before .before .loop .c .number) 18446744073709551615 (c .before .before .before .before .before .before .before .before .before .before .before .before .before .before .before .before .if1 .taken))
+loop-less-2 c = omega (arith, c .before .before .before .before .before .before .before .before .before .before .before .take .ensures .counted, c .before .before .before .before .before .before .before .before .before .before .before .before .before .before .before .before .before .goes-on .ensures (c .before .before .before .before .before .before .before .before .before .before .before .before .before .before .before .before .if1 .taken))
 
 loop-again-2 : tie.Need-loop-again-2 Inv-loop μ-loop
 loop-again-2 c =
     let k = c .before .before .before .before .before .before .before .before .before .before .before .take in
-    let v = c .before .before .before .before .before .before .before .before .before .before .before .before .before .before .before .before .before .before .before .loop .inv in (
+    let v = c .before .before .before .before .before .before .before .before .before .before .before .before .before .before .before .before .before .before .loop .inv in (
       v .0,
       k .ensures .within,
       k .kept .1 .1 .0 ∙ v .2,
@@ -117,7 +108,7 @@ loop-again-2 c =
 pub lines-spec : {M : Type 1} → statement M
 lines-spec =
     tie.close
-    (tie.spec Inv-loop μ-loop (λ c κs. tt) (λ c κs. tt) (λ c κs. tt) (λ c κs. tt) loop-holds take-requires (λ c. c .match .keys1)
+    (tie.spec Inv-loop μ-loop loop-holds (λ c κs. tt) take-requires (λ c. c .match .keys1)
     (λ c. c .match2 .keys1) repeat-requires (λ c. c .match2 .keys2) repeat-requires-2 (λ c. c .match2 .keys3) repeat-requires-3
     (λ c. c .match2 .keys4) repeat-requires-4 (λ c. c .match2 .keys5) answer-requires told-requires (λ c κs. tt) loop-less loop-again
     (λ c. c .match .keys2) loop-less-2 loop-again-2 (λ c. c .before .before .loop .inv .2) (λ c. c .before .before .loop .inv .3)

@@ -1,0 +1,2 @@
+-- The roster of the slots, and what a roster of the members says.
+pub mod Rosters

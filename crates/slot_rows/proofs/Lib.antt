@@ -1,0 +1,3 @@
+-- The columns of a table, and a row that is lent and comes back.
+pub mod Row
+pub mod Tables
