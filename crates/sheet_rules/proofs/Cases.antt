@@ -51,6 +51,11 @@ pub zeros : read (48 ∷ 10 ∷ 48 ∷ 48 ∷ 10 ∷ 48 ∷ 10 ∷ []) ≡ line 
 unfolding reading
 zeros = refl
 
+-- as many skip rows as there may be are counted, and the first of them is missing: "64|"
+pub sixty-four : read (54 ∷ 52 ∷ 10 ∷ []) ≡ line 2
+unfolding reading
+sixty-four = refl
+
 -- a count above its limit: "65|"
 pub sixty-five : read (54 ∷ 53 ∷ 10 ∷ []) ≡ line 1
 unfolding reading

@@ -174,6 +174,7 @@ end-back at s s′ (b ∷ bs) rest e = not-both e
 pub sheet-back : (text : List ℕ) (s : Sheet) (rest : List ℕ) → sheetAt text ≡ took s rest → (text ≡ textOf s) × Fits s
 unfolding sheetAt textOf
 sheet-back text s rest e =
+    let from : after (sectionAt 1 64 skipLimits text) _ ≡ took s rest = e in
     byRead (sectionAt 1 64 skipLimits text)
     (λ skips mid e₁.
     byRead (sectionAt (2 + length skips) 512 messageLimits mid)
@@ -181,7 +182,7 @@ sheet-back text s rest e =
     byRead (sectionAt (3 + length skips + length messages) 64 fillLimits behind)
     (λ fills end e₃.
     let made : Sheet = record { skips = skips; messages = messages; fills = fills } in
-    let last = end-back (4 + length skips + length messages + length fills) made s end rest (rw (e₁, e₂, e₃) at e) in
+    let last = end-back (4 + length skips + length messages + length fills) made s end rest (rw (e₁, e₂, e₃) at from) in
     let a = section-back 1 64 skipLimits text skips mid e₁ in
     let b = section-back (2 + length skips) 512 messageLimits mid messages behind e₂ in
     let c = section-back (3 + length skips + length messages) 64 fillLimits behind fills end e₃ in
@@ -190,9 +191,9 @@ sheet-back text s rest e =
       a .same ∙ ap (λ (t : List ℕ). sectionText skips ++ t) (b .same ∙ ap (λ (t : List ℕ). sectionText messages ++ t) d),
       record { skips = (a .few, a .within); messages = (b .few, b .within); fills = (c .few, c .within) },
     ))
-    (λ m e₃. not-both (rw (e₁, e₂, e₃) at e)))
-    (λ m e₂. not-both (rw (e₁, e₂) at e)))
-    (λ m e₁. not-both (rw e₁ at e))
+    (λ m e₃. not-both (rw (e₁, e₂, e₃) at from)))
+    (λ m e₂. not-both (rw (e₁, e₂) at from)))
+    (λ m e₁. not-both (rw e₁ at from))
 
 pub sheet-there : (s : Sheet) → Fits s → sheetAt (textOf s) ≡ took s []
 unfolding sheetAt textOf endAt

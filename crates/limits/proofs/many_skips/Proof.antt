@@ -1,5 +1,5 @@
 -- `limits::many_skips` meets its contract: each way out rewrites by its test. Assumes nothing.
-use mathlib.Core.Path.{_≡_}
+use mathlib.Core.Path.{_≡_, refl}
 use mathlib.Core.Bool.{true, false}
 use native.Mathlib.Omega.{arith}
 use lib.Dec.{ltb}
@@ -24,7 +24,7 @@ returns-2 c =
     let a = c .before .before .before .args in
     let p : ltb 256 (a .rows) ≡ false = le-ltb 256 _ (c .before .if1 .left) in
     let q : c .skips .result ≡ skipsIn (a .rows) (a .verdicts .now) = c .skips .ensures .0 in
-    rw (p, q)
+    rw (p, q) refl
 
 pub many-skips-spec : {M : Type 1} → statement M
 many-skips-spec = tie.close (tie.spec returns (λ c κs. search needs) add-result returns-2)
