@@ -3,7 +3,7 @@
 pub mod held;
 
 // The room of a buffer, M messages and A accounts (`capacity`, `places`), and what it holds.
-#[derive(Drop)]
+#[derive(Clone, Copy)]
 pub struct Counts {
     pub capacity: u64,
     pub places: u64,
@@ -14,7 +14,7 @@ pub struct Counts {
 }
 
 // Whether a buffer is filled, by count and by slots.
-#[derive(Drop)]
+#[derive(Clone, Copy)]
 pub struct Filled {
     pub count: bool,
     pub slots: bool,

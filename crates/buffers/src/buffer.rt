@@ -11,7 +11,7 @@ use buffer_reads::{Counts, Filled, held};
 use message::Code;
 
 // A buffer for at most 1,024 messages of at most 256 accounts. Rows 1,024 to 2,047 and accounts 256 to 511 are the backup room.
-#[derive(Drop)]
+#[derive(Clone, Copy)]
 pub struct Buffer {
     pub owner: [u16; 2048],
     pub kind: [u8; 2048],
@@ -24,7 +24,7 @@ pub struct Buffer {
 }
 
 // What a call answers: its code, and the buffer afterwards.
-#[derive(Drop)]
+#[derive(Clone, Copy)]
 pub struct Answer {
     pub code: Code,
     pub buffer: Buffer,

@@ -9,7 +9,7 @@ use scenario::commands::{BufferOrder, Record};
 use scenario::replies::Reply;
 
 // What an order leaves: the buffer, and the answer.
-#[derive(Drop)]
+#[derive(Clone, Copy)]
 pub struct Done {
     pub buffer: Buffer,
     pub reply: Reply,

@@ -13,7 +13,7 @@ use scenario::commands::Ask;
 use scenario::replies::Reply;
 
 // What fills leave, and the answer.
-#[derive(Drop)]
+#[derive(Clone, Copy)]
 pub struct Filled {
     pub buffer: Buffer,
     pub shelf: Shelf,

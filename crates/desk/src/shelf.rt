@@ -7,7 +7,7 @@ use lintelsong::group_calls::Joined;
 use scenario::commands::ShelfOrder;
 use scenario::replies::Reply;
 
-#[derive(Drop)]
+#[derive(Clone, Copy)]
 pub struct Shelf {
     pub made: usize,
     pub first: Group,
@@ -17,7 +17,7 @@ pub struct Shelf {
 }
 
 // A shelf, and the answer.
-#[derive(Drop)]
+#[derive(Clone, Copy)]
 pub struct Kept {
     pub shelf: Shelf,
     pub reply: Reply,

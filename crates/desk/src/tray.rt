@@ -6,7 +6,7 @@ use scenario::commands::{SkipRow, TrayOrder};
 
 // Whether states are printed; the skipped set; the skip rows, of which the first `rows` are kept, up to 300; the cost of an account without
 // a row; and how many rows the key list has.
-#[derive(Drop)]
+#[derive(Clone, Copy)]
 pub struct Tray {
     pub loud: bool,
     pub skipped: Skipped,

@@ -6,7 +6,7 @@ ghost use Rattle.meaning.specs.Passes.{lapsed_from, sweep_owners, left_c};
 use moves::{Fixed, Tally};
 
 // The counts of a fill at its end, and how many messages were dropped.
-#[derive(Drop)]
+#[derive(Clone, Copy)]
 pub struct Ended {
     pub tally: Tally,
     pub dropped: usize,

@@ -5,7 +5,7 @@ use words::decimal::Number;
 use words::{cut, decimal};
 
 // Whether there is one, and where it starts and ends.
-#[derive(Drop)]
+#[derive(Clone, Copy)]
 pub struct Frame {
     pub found: bool,
     pub from: usize,

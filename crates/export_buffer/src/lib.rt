@@ -22,7 +22,7 @@ mod cores;
 
 // A buffer for at most 1,024 messages of at most 256 accounts. Rows 1,024 to 2,047 and accounts 256 to 511 are the backup room.
 #[repr(C)]
-#[derive(Drop)]
+#[derive(Clone, Copy)]
 pub struct Buffer {
     owner: [u16; 2048],
     kind: [u8; 2048],

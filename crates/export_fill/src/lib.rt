@@ -7,7 +7,7 @@ ghost use Rattle.export_fill.specs.Held.{cols_of, table_of, GoodBuffer, GoodGrou
 
 // A buffer for at most 1,024 messages of at most 256 accounts.
 #[repr(C)]
-#[derive(Drop)]
+#[derive(Clone, Copy)]
 pub struct Buffer {
     owner: [u16; 2048],
     kind: [u8; 2048],
@@ -21,7 +21,7 @@ pub struct Buffer {
 
 // A group of at most 64 slots, 1,024 accounts and 1,024 messages.
 #[repr(C)]
-#[derive(Drop)]
+#[derive(Clone, Copy)]
 pub struct Group {
     number: [u16; 64],
     ints: [u8; 64],
@@ -40,7 +40,7 @@ pub struct Group {
 
 // A set of at most 512 accounts that fills pass over.
 #[repr(C)]
-#[derive(Drop)]
+#[derive(Clone, Copy)]
 pub struct Skipped {
     accounts: [u8; 16384],
     held: usize,

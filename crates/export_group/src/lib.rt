@@ -16,7 +16,7 @@ ghost use Rattle.export_group.specs.Held.{table_of, GoodGroup};
 
 // A group of at most 64 slots, 1,024 accounts and 1,024 messages.
 #[repr(C)]
-#[derive(Drop)]
+#[derive(Clone, Copy)]
 pub struct Group {
     number: [u16; 64],
     ints: [u8; 64],

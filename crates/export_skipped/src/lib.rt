@@ -11,7 +11,7 @@ ghost use Rattle.export_skipped.specs.Held.{GoodSet, accounts_in};
 
 // A set of at most 512 accounts that fills pass over.
 #[repr(C)]
-#[derive(Drop)]
+#[derive(Clone, Copy)]
 pub struct Skipped {
     accounts: [u8; 16384],
     held: usize,

@@ -6,7 +6,7 @@ use message::{Code, Filter};
 use moves::Tally;
 
 // What is asked of a fill by value: how many slots, how high, the filter, and the cost of an account without a skip row.
-#[derive(Drop)]
+#[derive(Clone, Copy)]
 pub struct Asked {
     pub slots: u64,
     pub height: u64,
@@ -15,7 +15,7 @@ pub struct Asked {
 }
 
 // What a fill answers beside what it changes: its code, how many messages it collected, its operations, and how many it dropped.
-#[derive(Drop)]
+#[derive(Clone, Copy)]
 pub struct Answer {
     pub code: Code,
     pub collected: usize,

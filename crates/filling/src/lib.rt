@@ -14,7 +14,7 @@ use skipped::Skipped;
 
 // What a fill answers: its code, how many messages it collected, its operations, how many messages it dropped; and the three as they are
 // afterwards.
-#[derive(Drop)]
+#[derive(Clone, Copy)]
 pub struct Filled {
     pub code: Code,
     pub collected: usize,

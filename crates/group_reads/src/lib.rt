@@ -5,7 +5,7 @@ use numbers::SlotId;
 pub mod held;
 
 // The room of a group, S slots (`capacity`), and what it holds.
-#[derive(Drop)]
+#[derive(Clone, Copy)]
 pub struct Counts {
     pub capacity: u64,
     pub slots: u64,
@@ -16,14 +16,14 @@ pub struct Counts {
 }
 
 // A slot number, if there is one.
-#[derive(Drop)]
+#[derive(Clone, Copy)]
 pub struct SeenId {
     pub found: bool,
     pub id: SlotId,
 }
 
 // The slot at a position, if there is one: its number and its counts.
-#[derive(Drop)]
+#[derive(Clone, Copy)]
 pub struct SeenSlot {
     pub found: bool,
     pub id: SlotId,

@@ -13,7 +13,7 @@ use group_reads::{Counts, SeenId, held};
 use message::Code;
 
 // A group of at most 64 slots, 1,024 accounts and 1,024 messages.
-#[derive(Drop)]
+#[derive(Clone, Copy)]
 pub struct Group {
     pub number: [u16; 64],
     pub ints: [u8; 64],
@@ -31,7 +31,7 @@ pub struct Group {
 }
 
 // What a set-up answers.
-#[derive(Drop)]
+#[derive(Clone, Copy)]
 pub struct Answer {
     pub code: Code,
     pub group: Group,

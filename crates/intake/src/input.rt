@@ -2,14 +2,14 @@
 ghost use Rattle.std.specs.Prelude.{◌≤◌, length};
 
 // Which bytes of the chunk are read and not yet handed on: from `at` to `held`.
-#[derive(Drop)]
+#[derive(Clone, Copy)]
 pub struct Reader {
     pub at: usize,
     pub held: usize,
 }
 
 // What the next line is: whether there is one, and how many bytes it has. A line that fills all its room may go on.
-#[derive(Drop)]
+#[derive(Clone, Copy)]
 pub struct Got {
     pub reader: Reader,
     pub found: bool,

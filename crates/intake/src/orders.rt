@@ -8,14 +8,14 @@ use pages::out::Pen;
 use scenario::commands::{Command, Line};
 
 // What is to be done: nothing, or a command so many times, with how many numbers on the list.
-#[derive(Drop)]
+#[derive(Clone, Copy)]
 pub enum Task {
     Nothing,
     Do(u64, usize, Command),
 }
 
 // How far a run is: how many lines are taken, what is left of the input, the pen, and whether it goes on.
-#[derive(Drop)]
+#[derive(Clone, Copy)]
 pub struct Course {
     pub number: u64,
     pub reader: Reader,
@@ -24,7 +24,7 @@ pub struct Course {
 }
 
 // A line taken: how far the run is, and what is to be done.
-#[derive(Drop)]
+#[derive(Clone, Copy)]
 pub struct Taken {
     pub course: Course,
     pub task: Task,

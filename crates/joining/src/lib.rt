@@ -6,7 +6,7 @@ use groups::group::Group;
 use message::Code;
 
 // What a join answers: its code, and both groups afterwards.
-#[derive(Drop)]
+#[derive(Clone, Copy)]
 pub struct Joined {
     pub code: Code,
     pub left: Group,

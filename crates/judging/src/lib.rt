@@ -3,7 +3,7 @@ ghost use Rattle.std.specs.Prelude.{◌≡◌, ◌+◌, ◌*◌, ◌<◌, ◌≤
 ghost use Rattle.entry.specs.Entry.{sayings, Spoken, Judges, mark_by, mark_of, cost_of, order_marks, order_costs, group_marks, group_costs};
 
 // What is said of an account.
-#[derive(Drop)]
+#[derive(Clone, Copy)]
 pub struct Said {
     pub mark: u8,
     pub cost: u64,

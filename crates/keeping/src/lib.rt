@@ -8,7 +8,7 @@ ghost use Rattle.keeping.specs.Marks.{begin_code, end_code, held_of, kept_of};
 use message::Code;
 
 // How many messages and accounts a half holds.
-#[derive(Drop)]
+#[derive(Clone, Copy)]
 pub struct Extent {
     pub messages: usize,
     pub places: usize,

@@ -3,14 +3,14 @@ ghost use Rattle.std.specs.Prelude.{◌≡◌, cond, ◌+◌, ◌*◌, ◌≤◌
 ghost use Rattle.lines.specs.Steps.{ReadsLine, ReadsLines};
 
 // A line: whether it is in order, and where the text goes on behind it.
-#[derive(Drop)]
+#[derive(Clone, Copy)]
 pub struct Line {
     pub found: bool,
     pub next: usize,
 }
 
 // Lines read one behind the other: how many are in order, up to the first that is not, and where the text goes on behind them.
-#[derive(Drop)]
+#[derive(Clone, Copy)]
 pub struct Lines {
     pub done: usize,
     pub next: usize,

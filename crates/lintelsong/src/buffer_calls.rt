@@ -20,7 +20,7 @@ use message::{Code, Message, SeenAccount, SeenMessage};
 use numbers::Place;
 
 // What a call answers: its code, and the buffer afterwards.
-#[derive(Drop)]
+#[derive(Clone, Copy)]
 pub struct Answer {
     pub code: Code,
     pub buffer: Buffer,

@@ -8,7 +8,7 @@ use message::Code;
 
 // What a fill answers: its code, how many messages it collected, its operations, how many messages it dropped; and the three as they are
 // afterwards.
-#[derive(Drop)]
+#[derive(Clone, Copy)]
 pub struct FillAnswer {
     pub code: Code,
     pub collected: usize,

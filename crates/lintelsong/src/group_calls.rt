@@ -14,14 +14,14 @@ use group_reads::{Counts, SeenId, SeenSlot};
 use message::{Code, SeenAccount, SeenMessage};
 
 // What a set-up answers.
-#[derive(Drop)]
+#[derive(Clone, Copy)]
 pub struct Answer {
     pub code: Code,
     pub group: Group,
 }
 
 // What a join answers: its code, and both groups afterwards.
-#[derive(Drop)]
+#[derive(Clone, Copy)]
 pub struct Joined {
     pub code: Code,
     pub left: Group,

@@ -6,19 +6,19 @@ pub mod group_calls;
 pub mod skipped_calls;
 
 // A buffer for at most 1,024 messages of at most 256 accounts.
-#[derive(Drop)]
+#[derive(Clone, Copy)]
 pub struct Buffer {
     held: buffers::buffer::Buffer,
 }
 
 // A group of at most 64 slots, 1,024 accounts and 1,024 messages.
-#[derive(Drop)]
+#[derive(Clone, Copy)]
 pub struct Group {
     held: groups::group::Group,
 }
 
 // A set of at most 512 accounts that fills pass over.
-#[derive(Drop)]
+#[derive(Clone, Copy)]
 pub struct Skipped {
     held: skipped::Skipped,
 }

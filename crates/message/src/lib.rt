@@ -5,14 +5,14 @@ ghost use Rattle.message.specs.Answers.{number, kind_of};
 ghost use Rattle.message.specs.Records.{account_of, blank_message, drops};
 
 // Whether the destination is an address of the standard form.
-#[derive(Drop)]
+#[derive(Clone, Copy)]
 pub enum Form {
     Standard,
     Other,
 }
 
 // A message record. The time is created_lt for an internal and the chain time for an external.
-#[derive(Drop)]
+#[derive(Clone, Copy)]
 pub struct Message {
     pub kind: u8,
     pub special: bool,
@@ -23,21 +23,21 @@ pub struct Message {
 }
 
 // What a walk gives: an account, if there is one.
-#[derive(Drop)]
+#[derive(Clone, Copy)]
 pub struct SeenAccount {
     pub found: bool,
     pub account: [u8; 32],
 }
 
 // A message, if there is one.
-#[derive(Drop)]
+#[derive(Clone, Copy)]
 pub struct SeenMessage {
     pub found: bool,
     pub message: Message,
 }
 
 // What a kind byte says.
-#[derive(Drop)]
+#[derive(Clone, Copy)]
 pub enum Kind {
     Internal,
     External,
@@ -45,14 +45,14 @@ pub enum Kind {
 }
 
 // With the filter on, an external of a chain time below the threshold is droppable.
-#[derive(Drop)]
+#[derive(Clone, Copy)]
 pub enum Filter {
     Off,
     Below(u64),
 }
 
 // What a call answers; `number_of` gives the number of each.
-#[derive(Drop)]
+#[derive(Clone, Copy)]
 pub enum Code {
     // 0: done
     Done,

@@ -8,7 +8,7 @@ ghost use Rattle.moves.specs.Moves.{marks, check_marks, homes, enter_homes, nowh
 ghost use Rattle.moves.specs.Good.{GoodMarks, many};
 
 // The counts of a fill: parties that joined the skipped set, accounts in the group, rows taken, operations.
-#[derive(Drop)]
+#[derive(Clone, Copy)]
 pub struct Tally {
     pub joined: usize,
     pub accounts: usize,
@@ -17,7 +17,7 @@ pub struct Tally {
 }
 
 // What a fill does not change: how many rows and places there are, and the height.
-#[derive(Drop)]
+#[derive(Clone, Copy)]
 pub struct Fixed {
     pub rows: usize,
     pub places: usize,
@@ -25,14 +25,14 @@ pub struct Fixed {
 }
 
 // The record of a slot: how many internals and how many externals it holds.
-#[derive(Drop)]
+#[derive(Clone, Copy)]
 pub struct Slot {
     pub ints: u8,
     pub exts: u8,
 }
 
 // What a take got: messages collected, the internals among them, and rows popped from the queue.
-#[derive(Drop)]
+#[derive(Clone, Copy)]
 pub struct Took {
     pub got: usize,
     pub ints: usize,

@@ -6,7 +6,7 @@ use moves::{Slot, Tally};
 use numbers::SlotId;
 
 // The position of the next slot, the last number given, and how many slots are still to be opened.
-#[derive(Drop)]
+#[derive(Clone, Copy)]
 pub struct Front {
     pub slot: usize,
     pub given: usize,
@@ -14,7 +14,7 @@ pub struct Front {
 }
 
 // Where the first pass stopped: the next place, the table of the slots, the counts, how many slots there are, and the last number given.
-#[derive(Drop)]
+#[derive(Clone, Copy)]
 pub struct Passed {
     pub at: usize,
     pub table: [Slot; 64],

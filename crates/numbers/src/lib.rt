@@ -3,11 +3,11 @@
 ghost use Rattle.std.specs.Prelude.{◌≡◌, ◌+◌, ◌-◌, ◌^◌, ◌<◌, min};
 
 // A slot's number. Numbers go on from the last one given, so they are not places in the slot table.
-#[derive(Drop)]
+#[derive(Clone, Copy)]
 pub struct SlotId(pub u16);
 
 // A place in the account order. A count of messages is neither, and is a plain number.
-#[derive(Drop)]
+#[derive(Clone, Copy)]
 pub struct Place(pub u16);
 
 // The sum of a and b, held at 2^64 - 1: it stops there and does not wrap round. A sum that wrapped is less than either part.

@@ -6,7 +6,7 @@ ghost use Rattle.numerals.specs.Steps.{Bounds, ReadsNumber};
 use words::decimal::Number;
 
 // A number that ends at a stop byte: whether there is one, its value, and where the text goes on behind the stop.
-#[derive(Drop)]
+#[derive(Clone, Copy)]
 pub struct Numeral {
     pub found: bool,
     pub value: u64,

@@ -1,7 +1,7 @@
 // Buffered writing to standard output. Bytes wait on a page that is lent, and leave when it is full or at the end of the run.
 
 // How many bytes wait on the page, and whether a write failed. After that nothing more is written.
-#[derive(Drop)]
+#[derive(Clone, Copy)]
 pub struct Pen {
     pub used: usize,
     pub failed: bool,

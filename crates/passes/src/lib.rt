@@ -11,7 +11,7 @@ use moves::{Fixed, Tally};
 use numbers::SlotId;
 
 // What a run leaves besides the columns.
-#[derive(Drop)]
+#[derive(Clone, Copy)]
 pub struct Ran {
     pub tally: Tally,
     pub slots: usize,

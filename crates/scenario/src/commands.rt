@@ -4,7 +4,7 @@ use words::decimal::Number;
 use words::{cut, decimal};
 
 // A message as a scenario names it.
-#[derive(Drop)]
+#[derive(Clone, Copy)]
 pub struct Record {
     pub kind: u8,
     pub special: bool,
@@ -15,7 +15,7 @@ pub struct Record {
 }
 
 // A skip row: the account, 1 if it is skipped and 0 if not, and what a check of it costs.
-#[derive(Drop)]
+#[derive(Clone, Copy)]
 pub struct SkipRow {
     pub account: u64,
     pub verdict: u8,
@@ -23,7 +23,7 @@ pub struct SkipRow {
 }
 
 // What a fill is asked for. Without a filter the threshold says nothing.
-#[derive(Drop)]
+#[derive(Clone, Copy)]
 pub struct Ask {
     pub group: usize,
     pub slots: u64,
@@ -33,7 +33,7 @@ pub struct Ask {
 }
 
 // An order to the buffer. The names of a removal stand on the list.
-#[derive(Drop)]
+#[derive(Clone, Copy)]
 pub enum BufferOrder {
     SetUp(u64, u64),
     Add(Record),
@@ -44,7 +44,7 @@ pub enum BufferOrder {
 }
 
 // An order to what is laid ready for a fill, or to print states or not.
-#[derive(Drop)]
+#[derive(Clone, Copy)]
 pub enum TrayOrder {
     Rows,
     Row(SkipRow),
@@ -56,14 +56,14 @@ pub enum TrayOrder {
 }
 
 // An order to the groups: one is set up, or the second is joined to the first. A group is named by its place.
-#[derive(Drop)]
+#[derive(Clone, Copy)]
 pub enum ShelfOrder {
     SetUp(usize, u64),
     Join(usize, usize),
 }
 
 // What is only looked at: whether a group is filled, whether the buffer is full, and a group's Display line.
-#[derive(Drop)]
+#[derive(Clone, Copy)]
 pub enum Look {
     IsFilled(usize, u64, u64),
     Full(u64),
@@ -71,7 +71,7 @@ pub enum Look {
 }
 
 // A command, by what it goes to.
-#[derive(Drop)]
+#[derive(Clone, Copy)]
 pub enum Command {
     Buffer(BufferOrder),
     Tray(TrayOrder),
@@ -81,14 +81,14 @@ pub enum Command {
 }
 
 // What a verb and its numbers say: a command, or none.
-#[derive(Drop)]
+#[derive(Clone, Copy)]
 enum Said {
     Is(Command),
     Wrong,
 }
 
 // A line: nothing to do, no command, or a command so many times, with how many numbers on the list.
-#[derive(Drop)]
+#[derive(Clone, Copy)]
 pub enum Line {
     Silent,
     Bad,
@@ -96,7 +96,7 @@ pub enum Line {
 }
 
 // How many words were read as numbers, or that one of them is none.
-#[derive(Drop)]
+#[derive(Clone, Copy)]
 enum Counted {
     All(usize),
     Wrong,

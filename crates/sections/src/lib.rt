@@ -6,7 +6,7 @@ ghost use Rattle.sections.specs.Steps.{ReadsSection};
 
 // A section that was read: the broken line, 0 if there is none; how many rows it has; the number of the line behind it; and where the text
 // goes on.
-#[derive(Drop)]
+#[derive(Clone, Copy)]
 pub struct Section {
     pub broken: usize,
     pub rows: usize,

@@ -9,7 +9,7 @@ ghost use Rattle.meaning.specs.Passes.{line_in, waits, serve_c};
 use moves::{Fixed, Slot, Tally};
 
 // Where serving stopped: the next place, the table of the slots, and the counts.
-#[derive(Drop)]
+#[derive(Clone, Copy)]
 pub struct Served {
     pub at: usize,
     pub table: [Slot; 64],

@@ -7,7 +7,7 @@ use lintelsong::{Buffer, Group, Skipped};
 use message::Message;
 
 // What a sheet works on.
-#[derive(Drop)]
+#[derive(Clone, Copy)]
 pub struct State {
     pub buffer: Buffer,
     pub group: Group,
@@ -15,7 +15,7 @@ pub struct State {
 }
 
 // What a part of a sheet leaves, and where its lines end.
-#[derive(Drop)]
+#[derive(Clone, Copy)]
 pub struct Reached {
     pub state: State,
     pub at: usize,

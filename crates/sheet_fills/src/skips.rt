@@ -4,7 +4,7 @@ ghost use Rattle.sheet_rows.specs.Answer.{skips_at};
 ghost use Rattle.sheet_fills.specs.Steps.{NamesLaid, VerdictsLaid, CostsLaid, Lays};
 
 // The first `count` rows of each column are skip rows; a name has 32 bytes.
-#[derive(Drop)]
+#[derive(Clone, Copy)]
 pub struct Rows {
     pub count: usize,
     pub names: [u8; 2048],

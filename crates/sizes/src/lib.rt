@@ -7,7 +7,7 @@ ghost use Rattle.sizes.specs.Sizes.{size_for, slots_for};
 use message::Code;
 
 // What a set-up of a buffer answers: its code, and the messages and accounts that it gives room for.
-#[derive(Drop)]
+#[derive(Clone, Copy)]
 pub struct Size {
     pub code: Code,
     pub messages: u64,
@@ -15,7 +15,7 @@ pub struct Size {
 }
 
 // What a set-up of a group answers: its code, and the slots that it gives room for.
-#[derive(Drop)]
+#[derive(Clone, Copy)]
 pub struct Slots {
     pub code: Code,
     pub slots: u64,

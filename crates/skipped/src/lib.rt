@@ -9,7 +9,7 @@ ghost use Rattle.skipped.specs.Sets.{GoodSet, accounts_in};
 
 use message::SeenAccount;
 
-#[derive(Drop)]
+#[derive(Clone, Copy)]
 pub struct Skipped {
     pub accounts: [u8; 16384],
     pub held: usize,

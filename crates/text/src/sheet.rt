@@ -5,7 +5,7 @@ ghost use Rattle.text.specs.Steps.{laid_out};
 
 // A sheet that was read. The tables hold the numbers of a line one behind the other, and zeros past the last line. Where a line is broken,
 // counts and tables hold nothing.
-#[derive(Drop)]
+#[derive(Clone, Copy)]
 pub struct Parsed {
     // the first broken, missing or extra line; 0 if there is none
     pub broken: usize,

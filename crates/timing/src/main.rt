@@ -15,7 +15,7 @@ use message::Filter;
 use wish::Wish;
 
 // Sums over all fills, each held at 2^64 - 1.
-#[derive(Drop)]
+#[derive(Clone, Copy)]
 struct Sums {
     collected: u64,
     operations: u64,
@@ -23,7 +23,7 @@ struct Sums {
 }
 
 // The sums, and what the last fill answered.
-#[derive(Drop)]
+#[derive(Clone, Copy)]
 struct Told {
     sums: Sums,
     last: FillAnswer,

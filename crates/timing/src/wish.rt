@@ -3,7 +3,7 @@ use words::decimal::Number;
 use words::{cut, decimal};
 
 // What the line says.
-#[derive(Drop)]
+#[derive(Clone, Copy)]
 pub struct Wish {
     pub slots: u64,
     pub height: u64,

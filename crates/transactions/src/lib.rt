@@ -10,7 +10,7 @@ ghost use Rattle.transactions.specs.Halves.{Halves, Commits};
 use message::Code;
 
 // Where a half begins: its first message's row, and its first account's.
-#[derive(Drop)]
+#[derive(Clone, Copy)]
 pub struct Half {
     pub row: usize,
     pub place: usize,

@@ -8,7 +8,7 @@ ghost use Rattle.moves.specs.Linked.{Linked};
 use moves::{Fixed, Slot, Tally};
 
 // What a move leaves: the record of the slot, and the counts.
-#[derive(Drop)]
+#[derive(Clone, Copy)]
 pub struct Moved {
     pub record: Slot,
     pub tally: Tally,

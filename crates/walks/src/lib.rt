@@ -8,7 +8,7 @@ ghost use Rattle.meaning.specs.Walks.{Ready, walk, seek_c, reach_c};
 use moves::{Fixed, Slot, Tally};
 
 // Where a walk of the account order stopped: the next place, the record of the slot, and the counts.
-#[derive(Drop)]
+#[derive(Clone, Copy)]
 pub struct Walk {
     pub at: usize,
     pub record: Slot,

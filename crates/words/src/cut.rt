@@ -4,7 +4,7 @@ ghost use Rattle.numbers.specs.Bytes.{eq_l};
 ghost use Rattle.words.specs.Cut.{run, before, Leads, IsWord};
 
 // A part of a line: from its first byte to the one behind its last.
-#[derive(Drop)]
+#[derive(Clone, Copy)]
 pub struct Span {
     pub from: usize,
     pub to: usize,

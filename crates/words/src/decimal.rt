@@ -3,7 +3,7 @@ ghost use Rattle.std.specs.Prelude.{◌≡◌, [], ◌≤◌, length, take};
 ghost use Rattle.words.specs.Digits.{is_digit, number_of, spelled, places as places_of, Written};
 
 // A word read as a number.
-#[derive(Drop)]
+#[derive(Clone, Copy)]
 pub enum Number {
     Value(u64),
     Nothing,

@@ -5,21 +5,21 @@ use numbers::SlotId;
 // ---- what the entry makes
 
 // The group's accounts as parties, and the parties' homes.
-#[derive(Drop)]
+#[derive(Clone, Copy)]
 pub struct Homes {
     pub member: [u16; 1280],
     pub home: [u8; 1280],
 }
 
 // What is said of the parties.
-#[derive(Drop)]
+#[derive(Clone, Copy)]
 pub struct Judged {
     pub mark: [u8; 1280],
     pub cost: [u64; 1280],
 }
 
 // The buffer's rows: their owners, and the plan.
-#[derive(Drop)]
+#[derive(Clone, Copy)]
 pub struct Rows {
     pub owner: [u16; 1024],
     pub plan: [u16; 2304],
@@ -30,7 +30,7 @@ pub struct Rows {
 // The owner of each row of the buffer, the plan with the rows' classes and the chains of their queues, and the rows taken; the home of each
 // party, the party of each account of the group; how many messages of each kind a slot holds; mark and cost of each party, and the parties
 // that joined the set; the slots' numbers by position; the `count` slots that the index lists below the height.
-#[derive(Drop)]
+#[derive(Clone, Copy)]
 pub struct Work {
     pub owner: [u16; 1024],
     pub plan: [u16; 2304],
@@ -48,7 +48,7 @@ pub struct Work {
 }
 
 // Of those columns the ones that a run changes, and the slots' numbers: what the end of a fill needs, and no more is copied.
-#[derive(Drop)]
+#[derive(Clone, Copy)]
 pub struct Left {
     pub owner: [u16; 1024],
     pub taken: [u16; 1024],
@@ -62,7 +62,7 @@ pub struct Left {
 }
 
 // What a run leaves: the columns, the counts, how many slots there are, the last number given, and how many messages were dropped.
-#[derive(Drop)]
+#[derive(Clone, Copy)]
 pub struct Done {
     pub left: Left,
     pub tally: Tally,
