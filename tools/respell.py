@@ -2,12 +2,13 @@
 """Brings the names that this repository's own definitions, fields and lemmas have to today's spelling: words in snake case, types and modules in
 camel case. It was run once, right after the toolchain's own port.py, on the tree that port.py leaves; docs/PORT.md names the commit.
 
-usage: tools/respell.py [--dry]
+usage: tools/respell.py [--dry | --local]
 
 A name is turned if a file of specs/ or proofs/ declares it with a dash or a hump: `rowAt` becomes `row_at`, `rank-kept` becomes `rank_kept`, and
 `Names-g`, a record, `NamesG`. Words of Rust code, strings, exported names, inputs and outputs stay. A file that imports the same spelling from
 the toolchain's library keeps it. Labels that the toolchain makes, as those of goals, stay too. Names that would fall together with another one
-get the spelling of APART. With --dry it lists names that would fall together, and writes nothing.
+get the spelling of APART. With --dry it lists names that would fall together, and writes nothing. With --local, in a second run, it turns the names
+that a file gives to what it imports and to its parameters, which LOCAL lists.
 """
 
 import os
@@ -29,6 +30,9 @@ group-after entry-list counts-in buffer-in buffer-after accounts-in row-in row-a
 """.split()}
 APART["allDigits"] = "digits_only"
 APART["numb"] = "Numb"
+# names that are given inside files: by `as`, or to a parameter
+LOCAL = """beginBy beginCall commitBy commitCall countIn deskFilled deskJoined filterBy freshHeld keptHalf lapsedOf listAt lowestOf moreOf plainBy
+plainSlots queuedOf rollbackBy rollbackCall storeMeant targetMeant placesTo placesFrom kindRows""".split()
 
 
 def is_walk(path):
@@ -165,6 +169,13 @@ def turn_rt(text, table, kept):
 def main(argv):
     os.chdir(os.path.join(os.path.dirname(os.path.abspath(__file__)), ".."))
     texts = {p: open(p, encoding="utf-8").read() for p in files()}
+    if "--local" in argv:
+        for p, t in texts.items():
+            new = re.sub(rf"(?<![\w.:-])({'|'.join(LOCAL)})(?![\w-])", lambda m: snake(m[1]), t)
+            if new != t:
+                with open(p, "w", encoding="utf-8") as f:
+                    f.write(new)
+        return 0
     own, inside = declared(texts)
     table = {n: snake(n) for n in own}
     # what would fall together

@@ -1,5 +1,7 @@
 // The accounts of a group as they are seen, on lent columns: whether one is there, the one in a row, those of a slot. Each gives its answer as a
 // value; the calls by value and the exports are made of these.
+#![tactic(auto)]
+
 ghost use Rattle.std.specs.Prelude.{◌≡◌, length, get_or};
 ghost use Rattle.queues.specs.Look.{row_of};
 ghost use Rattle.accounts_seen.specs.Accounts.{holds, account_found, AccountsIn};

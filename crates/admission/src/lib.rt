@@ -1,4 +1,6 @@
 // Whether an add is taken, and the seat that a new account gets: its name behind the last, and in the index.
+#![tactic(auto)]
+
 ghost use Rattle.std.specs.Prelude.{◌≡◌, length};
 ghost use Rattle.queues.specs.Append.{add_code_c};
 ghost use Rattle.admission.specs.Seats.{Seatable, SeatedIn};

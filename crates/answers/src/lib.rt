@@ -1,5 +1,7 @@
 // The short lines that answer a sheet, and the end of each. Each is put behind the first `at` bytes of what is lent, where there is room for the longest such line, and
 // the answer is where it ends.
+#![tactic(auto)]
+
 ghost use Rattle.std.specs.Prelude.{[], ◌∷◌, ◌+◌, ◌≤◌, length};
 ghost use Rattle.display.specs.Pieces.{Puts};
 ghost use Rattle.answers.specs.Answer.{broken_line, add_line, refusal};

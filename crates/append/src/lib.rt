@@ -1,4 +1,6 @@
 // An add: the account found by the index, the decision, the next row, the numbers, and the account's seat. Nothing large is copied, and a refusal writes nothing.
+#![tactic(auto)]
+
 ghost use Rattle.std.specs.Prelude.{◌≡◌, length};
 ghost use Rattle.queues.specs.Cols.{cols};
 ghost use Rattle.queues.specs.Good.{Good};

@@ -1,19 +1,21 @@
 // The numbers of a buffer when a message comes: one more is held, of its kind, perhaps of a new account, and an external may lower the minimum.
+#![tactic(auto)]
+
 ghost use Rattle.std.specs.Prelude.{◌≡◌, ◌<◌};
-ghost use Rattle.queues.specs.Append.{more as moreOf, lowest as lowestOf, counted_c};
+ghost use Rattle.queues.specs.Append.{more as more_of, lowest as lowest_of, counted_c};
 ghost use Rattle.arrivals.specs.Countable.{Countable};
 
 // n, and one more where the test holds.
 fn more(test: bool, n: u64) -> u64
     requires { n < 4096 }
-    ensures { result ≡ moreOf test n }
+    ensures { result ≡ more_of test n }
 {
     if test { n + 1 } else { n }
 }
 
 // The minimum with an external of time t: lowered, or set if there was none.
 fn lowest(marked: u64, least: u64, t: u64) -> u64
-    ensures { result ≡ lowestOf marked least t }
+    ensures { result ≡ lowest_of marked least t }
 {
     if marked == 0 {
         t

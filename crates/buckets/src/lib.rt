@@ -1,5 +1,7 @@
 // The bucket index of a group: for each count of messages from 0 to 16 the numbers of the slots listed there, in the order they came. A
 // bucket is 64 cells of one array, which goes from call to call by value; the steps of one update work on the copy that it holds.
+#![tactic(auto)]
+
 ghost use Rattle.std.specs.Prelude.{◌≡◌, ◌<◌, length, get_or, take};
 ghost use Rattle.rules.specs.World.{is_nil, joined};
 ghost use Rattle.rules.specs.Fill as rules;

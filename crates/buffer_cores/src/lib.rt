@@ -1,5 +1,7 @@
 // What the exports of a buffer do, on lent columns, but for the calls that change it: set-up, and each read of crates `buffer_reads` and
 // `buffer_seen` with its answer written out in numbers. A test answers 1 or 0.
+#![tactic(auto)]
+
 ghost use Rattle.std.specs.Prelude.{◌≡◌, ◌≤◌, length, get_or};
 ghost use Rattle.rules.specs.Calls.{set_up_buffer};
 ghost use Rattle.message.specs.Real.{Real};

@@ -1,4 +1,6 @@
 // The buffer at the end of a fill: packed, numbered and indexed anew.
+#![tactic(auto)]
+
 ghost use Rattle.std.specs.Prelude.{◌≡◌, length};
 ghost use Rattle.queues.specs.Cols.{cols};
 ghost use Rattle.queues.specs.Good.{Good};

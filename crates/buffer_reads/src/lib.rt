@@ -1,5 +1,7 @@
 // What is read off a buffer's lent numbers: each read gives its answer as a value. The calls by value and the exports are made of these. What a
 // buffer holds is read here, its walk in crate `buffer_seen`.
+#![tactic(auto)]
+
 pub mod held;
 
 // The room of a buffer, M messages and A accounts (`capacity`, `places`), and what it holds.

@@ -1,5 +1,7 @@
 // The walk of a buffer in order, on lent columns: the account at a place, the message at a position of its queue; and how many messages an
 // account has. Each gives its answer as a value; the calls by value and the exports are made of these.
+#![tactic(auto)]
+
 ghost use Rattle.std.specs.Prelude.{◌≡◌, ◌≤◌, length, get_or};
 ghost use Rattle.buffer_seen.specs.Lent.{queued_in, account_found, message_found, AccountsIn, MessagesIn};
 

@@ -1,7 +1,9 @@
 // The walk of a buffer in order: the account at a place, the message at a position of its queue; and how many messages an account has. Each is
 // a read of crate `buffer_seen` on copies of the columns that it needs.
+#![tactic(auto)]
+
 ghost use Rattle.std.specs.Prelude.{◌≡◌};
-ghost use Rattle.rules.specs.Queues.{queued as queuedOf, account_at, message_at};
+ghost use Rattle.rules.specs.Queues.{queued as queued_of, account_at, message_at};
 ghost use Rattle.message.specs.Real.{Real};
 ghost use Rattle.message.specs.Seen.{seen_account, seen_message};
 ghost use Rattle.queues.specs.Meant.{meant};
@@ -14,7 +16,7 @@ use numbers::Place;
 // How many messages the queue of an account holds; 0 if it has none.
 pub fn account_messages_count(buffer: Buffer, name: [u8; 32]) -> usize
     requires { GoodBuffer buffer }
-    ensures { result ≡ queuedOf Real name (meant (cols_of buffer)).now }
+    ensures { result ≡ queued_of Real name (meant (cols_of buffer)).now }
 {
     let owner = buffer.owner;
     let accounts = buffer.accounts;

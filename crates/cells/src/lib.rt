@@ -1,4 +1,6 @@
 // Cells of a lent column copied and cleared, one function for each width.
+#![tactic(auto)]
+
 ghost use Rattle.std.specs.Prelude.{◌≡◌, ◌+◌, ◌≤◌, length, take, drop, replicate};
 ghost use Rattle.columns.specs.Laid.{Copies, laid_at};
 

@@ -1,6 +1,8 @@
 // The calls by value that change a buffer. Its columns are lent to one core, which copies nothing large, and put together again.
+#![tactic(auto)]
+
 ghost use Rattle.std.specs.Prelude.{length, ◌/◌};
-ghost use Rattle.rules.specs.Calls.{add_message, remove_accounts, begin as beginBy, commit as commitBy, rollback as rollbackBy};
+ghost use Rattle.rules.specs.Calls.{add_message, remove_accounts, begin as begin_by, commit as commit_by, rollback as rollback_by};
 ghost use Rattle.columns.specs.Rows.{rows_of};
 ghost use Rattle.message.specs.Real.{Real, offer};
 ghost use Rattle.queues.specs.Meant.{meant};
@@ -96,7 +98,7 @@ pub fn remove(buffer: Buffer, names: &[u8]) -> Answer
 // Opens a transaction: code 7 if one is open.
 pub fn begin(buffer: Buffer) -> Answer
     requires { GoodBuffer buffer }
-    ensures { Gives (beginBy Real (meant (cols_of buffer))) (begin_c (cols_of buffer)) result.code result.buffer }
+    ensures { Gives (begin_by Real (meant (cols_of buffer))) (begin_c (cols_of buffer)) result.code result.buffer }
 {
     let mut owner = buffer.owner;
     let mut kind = buffer.kind;
@@ -134,7 +136,7 @@ pub fn begin(buffer: Buffer) -> Answer
 // Ends a transaction and leaves the buffer as it is: code 6 if none is open.
 pub fn commit(buffer: Buffer) -> Answer
     requires { GoodBuffer buffer }
-    ensures { Gives (commitBy Real (meant (cols_of buffer))) (commit_c (cols_of buffer)) result.code result.buffer }
+    ensures { Gives (commit_by Real (meant (cols_of buffer))) (commit_c (cols_of buffer)) result.code result.buffer }
 {
     let mut after = buffer;
     let mut numbers = buffer.numbers;
@@ -149,7 +151,7 @@ pub fn commit(buffer: Buffer) -> Answer
 // Ends a transaction and gives back every queue, the order, the counts and the minimum as at begin: code 6 if none is open.
 pub fn rollback(buffer: Buffer) -> Answer
     requires { GoodBuffer buffer }
-    ensures { Gives (rollbackBy Real (meant (cols_of buffer))) (rollback_c (cols_of buffer)) result.code result.buffer }
+    ensures { Gives (rollback_by Real (meant (cols_of buffer))) (rollback_c (cols_of buffer)) result.code result.buffer }
 {
     let mut owner = buffer.owner;
     let mut kind = buffer.kind;

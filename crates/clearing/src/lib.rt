@@ -1,4 +1,6 @@
 // A group cleared part by part: of each column only the cells in use, its buckets, and its numbers but for its room.
+#![tactic(auto)]
+
 ghost use Rattle.std.specs.Prelude.{◌≡◌, ◌∷◌, ◌*◌, length, get_or, replicate};
 ghost use Rattle.buckets.specs.Cells.{mark};
 ghost use Rattle.clearing.specs.Clear.{InUse, Clear};

@@ -1,5 +1,7 @@
 // What a fill took goes to the group: the rows taken are copied from the buffer, the accounts that entered with their slots, and the numbers
 // are put right.
+#![tactic(auto)]
+
 ghost use Rattle.std.specs.Prelude.{◌≡◌, ℕ, ◌*◌, ◌≤◌, ◌<◌, length, get_or};
 ghost use Rattle.columns.specs.Laid.{laid_at};
 ghost use Rattle.columns.specs.Rows.{flat};

@@ -1,4 +1,6 @@
 // Messages and accounts packed by the seats that the accounts get. A removal packs so, and so does the end of a fill.
+#![tactic(auto)]
+
 ghost use Rattle.std.specs.Prelude.{◌≡◌, [], ◌≤◌, length};
 ghost use Rattle.queues.specs.Cols.{cols};
 ghost use Rattle.queues.specs.Good.{Long};

@@ -1,4 +1,6 @@
 // The line that a group is shown by: "int=N, ext=N, accounts=N, slots=N", the numbers decimal with no zero in front.
+#![tactic(auto)]
+
 ghost use Rattle.std.specs.Prelude.{◌≡◌, ◌++◌, ◌+◌, ◌≤◌, length, take};
 ghost use Rattle.columns.specs.Laid.{laid_at};
 ghost use Rattle.words.specs.Digits.{decimal};

@@ -1,4 +1,6 @@
 // The end of a fill: the rest of the order is passed over, and the counts are closed.
+#![tactic(auto)]
+
 ghost use Rattle.std.specs.Prelude.{◌≡◌, ◌+◌, ◌-◌, ◌≤◌, length};
 ghost use Rattle.moves.specs.Moves.{costs};
 ghost use Rattle.meaning.specs.Passes.{lapsed_from, sweep_owners, left_c};

@@ -1,6 +1,8 @@
 // The entry of a fill: the columns of numbers that the passes work on, made of the buffer's columns, the group's, the skipped set and the
 // skip rows; here the group's accounts and the slots. An account is a number, its party: its place in the buffer's order, or 256 and its row in
 // the group. No byte is compared behind this point.
+#![tactic(auto)]
+
 ghost use Rattle.std.specs.Prelude.{◌≡◌, ℕ, ◌+◌, ◌-◌, ◌*◌, ◌<◌, ◌≤◌, length, get_or, take};
 ghost use Rattle.rules.specs.World.{joined};
 ghost use Rattle.buckets.specs.Cells.{index, GoodBuckets};

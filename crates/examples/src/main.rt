@@ -1,6 +1,8 @@
 // Answers many sheets, which stand one behind the other on standard input, each behind a line `BYTES NAME`: all of examples/ (`tools/examples
 // --write` lays them so). The line is written again in front of the answer. An input of more than 65,535 bytes is not answered, and one that
 // does not go on with such a line, or has fewer bytes than it says, is answered up to there; both are said.
+#![tactic(auto)]
+
 ghost use Rattle.std.specs.Prelude.{◌≤◌, length};
 
 mod frame;

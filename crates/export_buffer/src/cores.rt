@@ -1,6 +1,6 @@
 // What each export that changes a buffer does, on lent columns: the call of the core, and its code as a number.
 ghost use Rattle.std.specs.Prelude.{◌≡◌, ◌/◌, length};
-ghost use Rattle.rules.specs.Calls.{add_message, remove_accounts, begin as beginBy, rollback as rollbackBy};
+ghost use Rattle.rules.specs.Calls.{add_message, remove_accounts, begin as begin_by, rollback as rollback_by};
 ghost use Rattle.columns.specs.Rows.{rows_of};
 ghost use Rattle.message.specs.Real.{Real, offer};
 ghost use Rattle.queues.specs.Cols.{cols};
@@ -68,7 +68,7 @@ pub fn begin(
     numbers: &mut [u64; 528],
 ) -> u8
     requires { Good (cols owner.old kind.old form.old time.old address.old hash.old accounts.old numbers.old) }
-    ensures { Gives (beginBy Real (meant (cols owner.old kind.old form.old time.old address.old hash.old accounts.old numbers.old))) (begin_c (cols owner.old kind.old form.old time.old address.old hash.old accounts.old numbers.old)) result (cols owner.new kind.new form.new time.new address.new hash.new accounts.new numbers.new) }
+    ensures { Gives (begin_by Real (meant (cols owner.old kind.old form.old time.old address.old hash.old accounts.old numbers.old))) (begin_c (cols owner.old kind.old form.old time.old address.old hash.old accounts.old numbers.old)) result (cols owner.new kind.new form.new time.new address.new hash.new accounts.new numbers.new) }
 {
     let code = transactions::begin(owner, kind, form, time, address, hash, accounts, numbers);
     message::number_of(code)
@@ -93,7 +93,7 @@ pub fn rollback(
     numbers: &mut [u64; 528],
 ) -> u8
     requires { Good (cols owner.old kind.old form.old time.old address.old hash.old accounts.old numbers.old) }
-    ensures { Gives (rollbackBy Real (meant (cols owner.old kind.old form.old time.old address.old hash.old accounts.old numbers.old))) (rollback_c (cols owner.old kind.old form.old time.old address.old hash.old accounts.old numbers.old)) result (cols owner.new kind.new form.new time.new address.new hash.new accounts.new numbers.new) }
+    ensures { Gives (rollback_by Real (meant (cols owner.old kind.old form.old time.old address.old hash.old accounts.old numbers.old))) (rollback_c (cols owner.old kind.old form.old time.old address.old hash.old accounts.old numbers.old)) result (cols owner.new kind.new form.new time.new address.new hash.new accounts.new numbers.new) }
 {
     let code = transactions::rollback(owner, kind, form, time, address, hash, accounts, numbers);
     message::number_of(code)

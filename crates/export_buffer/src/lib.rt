@@ -1,10 +1,12 @@
 // The buffer for C and Rust: a closed struct behind a reference, and every call on it. Each call lends the columns that it needs to one
 // function, of crate `buffer_cores` or, where it changes the buffer, of `cores`, and copies nothing. `set_up` takes any memory and makes it well
 // formed; every other call asks for a well formed buffer and leaves one. Codes are the numbers of the table of codes, and a test answers 1 or 0.
+#![tactic(auto)]
+
 ghost use Rattle.std.specs.Prelude.{◌≡◌, ◌/◌, length};
 ghost use Rattle.rules.specs.World.{least_read};
-ghost use Rattle.rules.specs.Queues.{queued as queuedOf, full_by_count, full_by_slots, account_at, message_at};
-ghost use Rattle.rules.specs.Calls.{is_open, set_up_buffer, add_message, remove_accounts, begin as beginBy, commit as commitBy, rollback as rollbackBy};
+ghost use Rattle.rules.specs.Queues.{queued as queued_of, full_by_count, full_by_slots, account_at, message_at};
+ghost use Rattle.rules.specs.Calls.{is_open, set_up_buffer, add_message, remove_accounts, begin as begin_by, commit as commit_by, rollback as rollback_by};
 ghost use Rattle.columns.specs.Rows.{rows_of};
 ghost use Rattle.message.specs.Real.{Real, offer};
 ghost use Rattle.message.specs.Seen.{seen_account, seen_message};
@@ -114,7 +116,7 @@ pub extern "C" fn lintelsong_buffer_remove(b: &mut Buffer, names: &[u8]) -> u8
 #[unsafe(no_mangle)]
 pub extern "C" fn lintelsong_buffer_begin(b: &mut Buffer) -> u8
     requires { GoodBuffer b.old }
-    ensures { Gives (beginBy Real (meant (cols_of b.old))) (begin_c (cols_of b.old)) result (cols_of b.new) }
+    ensures { Gives (begin_by Real (meant (cols_of b.old))) (begin_c (cols_of b.old)) result (cols_of b.new) }
 {
     cores::begin(
         &mut b.owner,
@@ -132,7 +134,7 @@ pub extern "C" fn lintelsong_buffer_begin(b: &mut Buffer) -> u8
 #[unsafe(no_mangle)]
 pub extern "C" fn lintelsong_buffer_commit(b: &mut Buffer) -> u8
     requires { GoodBuffer b.old }
-    ensures { Gives (commitBy Real (meant (cols_of b.old))) (commit_c (cols_of b.old)) result (cols_of b.new) }
+    ensures { Gives (commit_by Real (meant (cols_of b.old))) (commit_c (cols_of b.old)) result (cols_of b.new) }
 {
     cores::commit(&mut b.numbers)
 }
@@ -141,7 +143,7 @@ pub extern "C" fn lintelsong_buffer_commit(b: &mut Buffer) -> u8
 #[unsafe(no_mangle)]
 pub extern "C" fn lintelsong_buffer_rollback(b: &mut Buffer) -> u8
     requires { GoodBuffer b.old }
-    ensures { Gives (rollbackBy Real (meant (cols_of b.old))) (rollback_c (cols_of b.old)) result (cols_of b.new) }
+    ensures { Gives (rollback_by Real (meant (cols_of b.old))) (rollback_c (cols_of b.old)) result (cols_of b.new) }
 {
     cores::rollback(
         &mut b.owner,
@@ -197,7 +199,7 @@ pub extern "C" fn lintelsong_buffer_in_tx(b: &mut Buffer) -> u8
 #[unsafe(no_mangle)]
 pub extern "C" fn lintelsong_buffer_account_messages_count(b: &mut Buffer, name: &[u8; 32]) -> u64
     requires { GoodBuffer b.old }
-    ensures { (result ≡ queuedOf Real name.now (meant (cols_of b.old)).now) × (b.new ≡ b.old) }
+    ensures { (result ≡ queued_of Real name.now (meant (cols_of b.old)).now) × (b.new ≡ b.old) }
 {
     buffer_cores::account_messages_count(&b.owner, &b.accounts, &b.numbers, name)
 }

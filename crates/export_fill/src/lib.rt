@@ -1,7 +1,9 @@
 // The fill for C and Rust: it lends every column of the buffer, the group and the skipped set to one function of `fill_cores`, and copies nothing.
 // The three have the layout of those of the other export crates, whose calls set them up.
+#![tactic(auto)]
+
 ghost use Rattle.fill_rules.specs.Fills.{call_of, keys, left};
-ghost use Rattle.fill_answer.specs.Answers.{filterBy};
+ghost use Rattle.fill_answer.specs.Answers.{filter_by};
 ghost use Rattle.fill_cores.specs.Lent.{FillsBy};
 ghost use Rattle.export_fill.specs.Held.{cols_of, table_of, GoodBuffer, GoodGroup, GoodSet};
 
@@ -68,7 +70,7 @@ pub extern "C" fn lintelsong_fill(
     below: u64,
 ) -> u8
     requires { GoodBuffer b.old × GoodGroup g.old × GoodSet s.old }
-    ensures { FillsBy (call_of (cols_of b.old) (table_of g.old) s.old.accounts s.old.held slots height (filterBy filtered below) names.now verdicts.now costs.now cost) (keys lts.old hashes.old) result out.new (left (cols_of b.new) (table_of g.new) s.new.accounts s.new.held (keys lts.new hashes.new)) }
+    ensures { FillsBy (call_of (cols_of b.old) (table_of g.old) s.old.accounts s.old.held slots height (filter_by filtered below) names.now verdicts.now costs.now cost) (keys lts.old hashes.old) result out.new (left (cols_of b.new) (table_of g.new) s.new.accounts s.new.held (keys lts.new hashes.new)) }
 {
     fill_cores::fill(
         &mut b.owner,

@@ -1,9 +1,11 @@
 // The group for C and Rust: a closed struct behind a reference, and every call on it. Each call lends the columns that it needs to one
 // function of crate `group_cores`, and copies nothing. `set_up` takes any memory and makes it well formed; every other call asks for a well formed
 // group and leaves one. Codes are the numbers of the table of codes, and a test answers 1 or 0.
+#![tactic(auto)]
+
 ghost use Rattle.std.specs.Prelude.{◌≡◌, [], get_or};
 ghost use Rattle.rules.specs.World.{nth, is_nil};
-ghost use Rattle.rules.specs.Queues.{has, at as listAt, accounts as accounts_of};
+ghost use Rattle.rules.specs.Queues.{has, at as list_at, accounts as accounts_of};
 ghost use Rattle.rules.specs.Fill.{is_filled};
 ghost use Rattle.message.specs.Real.{Real};
 ghost use Rattle.message.specs.Seen.{seen_account, seen_message};
@@ -157,7 +159,7 @@ pub extern "C" fn lintelsong_group_message_at(
     k: u64,
 ) -> u8
     requires { GoodGroup g.old }
-    ensures { ToldMessage result facts.new address.new hash.new (seen_message (nth k (listAt Real name.now (meant (table_of g.old)).now.lists))) × (g.new ≡ g.old) }
+    ensures { ToldMessage result facts.new address.new hash.new (seen_message (nth k (list_at Real name.now (meant (table_of g.old)).now.lists))) × (g.new ≡ g.old) }
 {
     group_cores::message_at(
         &g.accounts,

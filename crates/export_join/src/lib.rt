@@ -1,5 +1,7 @@
 // The join for C and Rust: it lends every column of both groups to one function of `join_cores`, and copies nothing. A group has the layout of
 // those of the other export crates, whose calls set it up.
+#![tactic(auto)]
+
 ghost use Rattle.join_cores.specs.Lent.{Joins};
 ghost use Rattle.export_join.specs.Held.{table_of, GoodGroup};
 

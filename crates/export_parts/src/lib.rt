@@ -1,5 +1,7 @@
 // What the exports share: an array whose length is said, a test as a number, a message made of its parts, and an account and a message written
 // out.
+#![tactic(auto)]
+
 ghost use Rattle.std.specs.Prelude.{◌≡◌, length};
 ghost use Rattle.export_parts.specs.Parts.{bit, Made, Told, Tells, ToldMessage};
 

@@ -1,6 +1,8 @@
 // The skipped set for C and Rust: a closed struct behind a reference, and every call on it. Each call lends the fields to one function of
 // crate `skipped_cores`. `set_up` takes any memory and makes it well formed; every other call asks for a well formed set and leaves one. A test
 // answers 1 or 0.
+#![tactic(auto)]
+
 ghost use Rattle.std.specs.Prelude.{◌≡◌, [], length};
 ghost use Rattle.rules.specs.World.{nth};
 ghost use Rattle.rules.specs.Queues.{is_in};

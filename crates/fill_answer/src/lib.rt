@@ -1,6 +1,8 @@
 // What a fill is asked, what it answers, and how both stand in numbers for C and Rust.
+#![tactic(auto)]
+
 ghost use Rattle.std.specs.Prelude.{◌≡◌};
-ghost use Rattle.fill_answer.specs.Answers.{answered, counts_in, filterBy};
+ghost use Rattle.fill_answer.specs.Answers.{answered, counts_in, filter_by};
 
 use message::{Code, Filter};
 use moves::Tally;
@@ -44,7 +46,7 @@ pub fn counts(a: Answer) -> [u64; 3]
 
 // A filter by two numbers: off if the first is 0, else below the second.
 pub fn filter_by(filtered: u8, below: u64) -> Filter
-    ensures { result ≡ filterBy filtered below }
+    ensures { result ≡ filter_by filtered below }
 {
     if filtered == 0 {
         Filter::Off

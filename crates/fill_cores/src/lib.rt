@@ -1,4 +1,6 @@
 // The fill for C and Rust on lent columns, below its export: the fill of crate `fills`, and its answer in numbers. The group's columns have a 2.
+#![tactic(auto)]
+
 ghost use Rattle.std.specs.Prelude.{◌≡◌};
 ghost use Rattle.queues.specs.Cols.{cols};
 ghost use Rattle.queues.specs.Good.{Good};
@@ -6,7 +8,7 @@ ghost use Rattle.slots.specs.Good.{Good as GroupGood};
 ghost use Rattle.skipped.specs.Sets.{GoodRows};
 ghost use Rattle.slots.specs.Table.{table};
 ghost use Rattle.fill_rules.specs.Fills.{call_of, keys, left};
-ghost use Rattle.fill_answer.specs.Answers.{filterBy};
+ghost use Rattle.fill_answer.specs.Answers.{filter_by};
 ghost use Rattle.fill_cores.specs.Lent.{FillsBy};
 
 pub fn fill(
@@ -46,7 +48,7 @@ pub fn fill(
     below: u64,
 ) -> u8
     requires { Good (cols owner.old kind.old form.old time.old address.old hash.old accounts.old numbers.old) × GroupGood (table number2.old ints2.old exts2.old accounts2.old home2.old owner2.old kind2.old form2.old time2.old address2.old hash2.old buckets2.old numbers2.old) × GoodRows held.old set.old }
-    ensures { FillsBy (call_of (cols owner.old kind.old form.old time.old address.old hash.old accounts.old numbers.old) (table number2.old ints2.old exts2.old accounts2.old home2.old owner2.old kind2.old form2.old time2.old address2.old hash2.old buckets2.old numbers2.old) set.old held.old slots height (filterBy filtered below) names.now verdicts.now costs.now cost) (keys lts.old hashes.old) result out.new (left (cols owner.new kind.new form.new time.new address.new hash.new accounts.new numbers.new) (table number2.new ints2.new exts2.new accounts2.new home2.new owner2.new kind2.new form2.new time2.new address2.new hash2.new buckets2.new numbers2.new) set.new held.new (keys lts.new hashes.new)) }
+    ensures { FillsBy (call_of (cols owner.old kind.old form.old time.old address.old hash.old accounts.old numbers.old) (table number2.old ints2.old exts2.old accounts2.old home2.old owner2.old kind2.old form2.old time2.old address2.old hash2.old buckets2.old numbers2.old) set.old held.old slots height (filter_by filtered below) names.now verdicts.now costs.now cost) (keys lts.old hashes.old) result out.new (left (cols owner.new kind.new form.new time.new address.new hash.new accounts.new numbers.new) (table number2.new ints2.new exts2.new accounts2.new home2.new owner2.new kind2.new form2.new time2.new address2.new hash2.new buckets2.new numbers2.new) set.new held.new (keys lts.new hashes.new)) }
 {
     let filter = fill_answer::filter_by(filtered, below);
     let a = fills::fill(

@@ -7,7 +7,7 @@ use Prim.Native.Nat.{ℕ, ◌+◌, ◌<◌, ◌≤◌}
 use native.Mathlib.Omega.{arith}
 use lib.ListN.{length, get_or, take}
 use Rattle.rules.specs.World.{World, Slot, is_member}
-use Rattle.rules.specs.Queues.{has_slot, count_of, count as countIn}
+use Rattle.rules.specs.Queues.{has_slot, count_of, count as count_in}
 use Rattle.rules.specs.Demand.{OnceN}
 use Rattle.columns.specs.Lists.{tab_i}
 use Rattle.columns.proofs.Tabs.{length_tab}
@@ -48,7 +48,7 @@ module _ {v : Call} {l : Lent} {m₀ : Columns} {x : RanC} {r : ℕ} (p : Known 
 
   -- the counts at entry, of slots in any world
   before : (W : World) (s : ℕ → Slot W) → ((j : ℕ) → (s j).number ≡ get_or v.group.number j 0)
-      → ((j : ℕ) → countIn W (s j) ≡ get_or v.group.ints j 0 + get_or v.group.exts j 0)
+      → ((j : ℕ) → count_in W (s j) ≡ get_or v.group.ints j 0 + get_or v.group.exts j 0)
       → (j : ℕ) → j < x.slots → count_of W (get_or x.number j 0) (tab_i (count v.group 1) 0 s) ≡ get_or old_counts j 0
   before W s named counted j h =
       let f = slots_few in
@@ -56,12 +56,12 @@ module _ {v : Call} {l : Lent} {m₀ : Columns} {x : RanC} {r : ℕ} (p : Known 
       (numbered v.group p.good.group) low p.good.group.blank.ints p.good.group.blank.exts p.stay p.new j h (omega arith)
 
   before_bytes : (j : ℕ) → j < x.slots → count_of Real (get_or x.number j 0) (slots_of v.group) ≡ get_or old_counts j 0
-  unfolding slots_of countIn
+  unfolding slots_of count_in
   before_bytes = before Real (slot_in v.group) (λ j. refl) (λ j. refl)
 
   pub before_numbers : (j : ℕ) → j < x.slots
       → count_of (World' v) (get_or x.number j 0) (group_num v (home_made v l) (member_made v l)).slots ≡ get_or old_counts j 0
-  unfolding countIn
+  unfolding count_in
   before_numbers =
       before (World' v) (slot_at (ext v) (time v) v.group.number (take (members v) (member_made v l)) (home_made v l) v.group.ints v.group.exts)
       (λ j. refl) (λ j. refl)
@@ -71,7 +71,7 @@ module _ {v : Call} {l : Lent} {m₀ : Columns} {x : RanC} {r : ℕ} (p : Known 
   new_cell j h = let f = slots_few in held_cell x.now.store.ints x.now.store.exts j (omega arith)
 
   after_numbers : (j : ℕ) → j < x.slots → count_of (World' v) (get_or x.number j 0) (told p.ran).group.slots ≡ get_or new_counts j 0
-  unfolding countIn
+  unfolding count_in
   after_numbers j h =
       ap (count_of (World' v) (get_or x.number j 0)) (slots_are p.ran)
       ∙ count_now (World' v)
@@ -95,7 +95,7 @@ module _ {v : Call} {l : Lent} {m₀ : Columns} {x : RanC} {r : ℕ} (p : Known 
       omega arith
 
   stays : (n : ℕ) → has_slot Real n (slots_of v.group) ≡ true → is_member n (take x.slots x.number) ≡ true
-  unfolding slots_of countIn
+  unfolding slots_of count_in
   stays n h =
       let q =
       stays_among Real (slot_in v.group) v.group.number v.group.ints v.group.exts x.number (count v.group 1) (count v.group 6)
@@ -105,7 +105,7 @@ module _ {v : Call} {l : Lent} {m₀ : Columns} {x : RanC} {r : ℕ} (p : Known 
       (number_among x.number x.slots numbers_once numbers_long q.0 q.1.0)
 
   pub index_fits : MayReindex v.group.buckets x.number old_counts new_counts x.slots
-  unfolding countIn
+  unfolding count_in
   index_fits =
       let long = slots_few in
       let a = length_tab 64 0 (λ j. get_or v.group.ints j 0 + get_or v.group.exts j 0) in

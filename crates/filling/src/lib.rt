@@ -1,5 +1,7 @@
 // A fill by value: the columns of a buffer, a group and a skipped set are lent to the fill (crate `fills`), and put together again. The three
 // are open here; callers from outside hold the closed ones of crate `lintelsong`.
+#![tactic(auto)]
+
 ghost use Rattle.buffers.specs.Buffers.{GoodBuffer};
 ghost use Rattle.groups.specs.Groups.{GoodGroup};
 ghost use Rattle.skipped.specs.Sets.{GoodSet};

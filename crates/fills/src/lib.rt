@@ -1,5 +1,6 @@
 // The fill on lent columns: refused, or ended with nothing to do, or entry, passes and end one after the other. The buffer's columns come first,
 // then the group's (with a 2), the skipped set with how many accounts it holds, the arguments, and the key list.
+#![tactic(auto)]
 
 ghost use Rattle.queues.specs.Cols.{cols};
 ghost use Rattle.queues.specs.Good.{Good};

@@ -1,5 +1,7 @@
 // What each export of a group does, on lent columns: set-up, and each read of crates `group_reads`, `group_shown`, `slots_seen`,
 // `accounts_seen` and `messages_seen` with its answer written out in numbers (crate `group_parts`).
+#![tactic(auto)]
+
 ghost use Rattle.std.specs.Prelude.{◌≡◌, ◌≤◌, length, get_or};
 ghost use Rattle.display.specs.Line.{written};
 ghost use Rattle.queues.specs.Look.{row_of};

@@ -1,4 +1,6 @@
 // What the exports of a group share: answers written out in numbers. A test answers 1 or 0.
+#![tactic(auto)]
+
 ghost use Rattle.std.specs.Prelude.{◌≡◌};
 ghost use Rattle.group_parts.specs.Told.{listed, ToldId, ToldSlot};
 

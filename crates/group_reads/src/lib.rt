@@ -1,5 +1,7 @@
 // What is read off a group, on lent columns: each read gives its answer as a value. The calls by value and the exports are made of these. What
 // a group holds is read here; what is made of it in crate `group_shown`, its walks in crates `slots_seen`, `accounts_seen` and `messages_seen`.
+#![tactic(auto)]
+
 use numbers::SlotId;
 
 pub mod held;

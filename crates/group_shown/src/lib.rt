@@ -1,5 +1,7 @@
 // What is made of a group's counts, on lent columns: whether it is filled, and the Display line. The calls by value and the exports are made of
 // these.
+#![tactic(auto)]
+
 ghost use Rattle.std.specs.Prelude.{◌≡◌, length};
 ghost use Rattle.display.specs.Line.{written};
 ghost use Rattle.group_reads.specs.Shown.{line_for};

@@ -1,8 +1,10 @@
 // The walks of a group: slots by rising number, the accounts of a slot, lists, messages, buckets; and whether an account is there. Each is a
 // read of crates `slots_seen`, `accounts_seen` and `messages_seen` on copies of the columns that it needs.
+#![tactic(auto)]
+
 ghost use Rattle.std.specs.Prelude.{◌≡◌, [], get_or};
 ghost use Rattle.rules.specs.World.{nth};
-ghost use Rattle.rules.specs.Queues.{has, at as listAt, accounts as accounts_of};
+ghost use Rattle.rules.specs.Queues.{has, at as list_at, accounts as accounts_of};
 ghost use Rattle.message.specs.Real.{Real};
 ghost use Rattle.message.specs.Seen.{seen_account, seen_message};
 ghost use Rattle.slots.specs.Meant.{meant};
@@ -59,7 +61,7 @@ pub fn account_at(group: Group, k: usize) -> SeenAccount
 // The k-th message of an account's list; none past the end or without a list.
 pub fn message_at(group: Group, name: [u8; 32], k: usize) -> SeenMessage
     requires { GoodGroup group }
-    ensures { result ≡ seen_message (nth k (listAt Real name (meant (table_of group)).now.lists)) }
+    ensures { result ≡ seen_message (nth k (list_at Real name (meant (table_of group)).now.lists)) }
 {
     let accounts = group.accounts;
     let owner = group.owner;

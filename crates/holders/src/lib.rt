@@ -1,4 +1,6 @@
 // Who stays in the buffer at the end of a fill: the places that still hold a row, and the seats that they move up to.
+#![tactic(auto)]
+
 ghost use Rattle.std.specs.Prelude.{◌≡◌, not, ◌≤◌, eqb, length, get_or};
 ghost use Rattle.leaving.specs.Seats.{Seated};
 ghost use Rattle.settle.specs.Ends.{held_by, emptied};

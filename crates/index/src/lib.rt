@@ -1,6 +1,8 @@
 // The index of the names in an account order: which place has a name, without comparing it with every name. It stands behind the first
 // sixteen numbers of a buffer: 16 to 271 the links, 272 to 527 the heads. A name's hash is its last byte: names are hashes themselves, so
 // they spread evenly. Where all names end in one byte a search compares with each of them, as a scan does.
+#![tactic(auto)]
+
 ghost use Rattle.std.specs.Prelude.{◌≡◌, ◌*◌, ◌≤◌, ◌<◌, length, drop};
 ghost use Rattle.columns.specs.Rows.{rows_of, index_of};
 ghost use Rattle.index.specs.Names.{linked_c, enter_c, with_index, indexed_by};

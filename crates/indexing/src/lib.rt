@@ -1,4 +1,6 @@
 // The bucket index brought up to date: after a fill, by the slots whose count changed, and after a join, by the slots that are new.
+#![tactic(auto)]
+
 ghost use Rattle.std.specs.Prelude.{◌<◌};
 ghost use Rattle.rules.specs.Fill.{reindexed, listed_too};
 ghost use Rattle.buckets.specs.Cells.{index};

@@ -1,4 +1,6 @@
 // The join for C and Rust on lent columns, below its export: the join of crate `merging`, and its code as a number. The right's columns have a 2.
+#![tactic(auto)]
+
 ghost use Rattle.slots.specs.Good.{Good};
 ghost use Rattle.slots.specs.Table.{table};
 ghost use Rattle.join_cores.specs.Lent.{Joins};

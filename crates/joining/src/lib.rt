@@ -1,4 +1,6 @@
 // A join by value: the columns of two groups are lent to the join (crate `merging`), and put together again.
+#![tactic(auto)]
+
 ghost use Rattle.groups.specs.Groups.{GoodGroup};
 ghost use Rattle.joining.specs.Joins.{Joins};
 

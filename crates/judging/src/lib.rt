@@ -1,4 +1,6 @@
 // What the skipped set and the skip rows say of each party at the entry of a fill: its mark and its cost.
+#![tactic(auto)]
+
 ghost use Rattle.std.specs.Prelude.{◌≡◌, ◌+◌, ◌*◌, ◌<◌, ◌≤◌, length};
 ghost use Rattle.entry.specs.Entry.{sayings, Spoken, Judges, mark_by, mark_of, cost_of, order_marks, order_costs, group_marks, group_costs};
 

@@ -1,5 +1,7 @@
 // What a transaction makes of the numbers of a buffer: whether one may begin or end, how much each half holds, the six numbers kept at begin
 // and given back by a rollback, and the mark of an open one.
+#![tactic(auto)]
+
 ghost use Rattle.std.specs.Prelude.{◌≡◌, ◌*◌, ◌≤◌, length, get_or, set};
 ghost use Rattle.index.specs.Names.{indexed_by};
 ghost use Rattle.queues.specs.Transact.{copied};

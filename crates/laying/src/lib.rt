@@ -1,4 +1,6 @@
 // Loops that lay the front of one column over another: as it is, raised by a number, or counted up.
+#![tactic(auto)]
+
 ghost use Rattle.std.specs.Prelude.{◌≡◌, map, ◌+◌, ◌<◌, ◌≤◌, length, get_or, take};
 ghost use Rattle.columns.specs.Lists.{tab_i};
 ghost use Rattle.columns.specs.Laid.{laid_at};

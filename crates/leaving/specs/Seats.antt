@@ -9,9 +9,9 @@ pub record Seated (goes : ℕ → Bool) (a : ℕ) (seats₀ seats' : List ℕ) (
   pub stay : r ≡ rank (λ p. not (goes p)) a
 
 -- the first n messages have owners that have a seat
-pub record Owned (n : ℕ) (owner : List ℕ) (kindRows seats : ℕ) : Type 0 where
+pub record Owned (n : ℕ) (owner : List ℕ) (kind_rows seats : ℕ) : Type 0 where
   pub few : n ≤ 1024
   pub rows : length owner ≡ 2048
-  pub kinds : kindRows ≡ 2048
+  pub kinds : kind_rows ≡ 2048
   pub table : seats ≡ 256
   pub owners : (i : ℕ) → i < n → get_or owner i 0 < 256

@@ -1,4 +1,6 @@
 // Who leaves in a removal: the seats of the accounts that are not named, and the externals that would go with those that are.
+#![tactic(auto)]
+
 ghost use Rattle.std.specs.Prelude.{◌≡◌, ◌*◌, ◌≤◌, length};
 ghost use Rattle.queues.specs.Compact.{named_c, lost_externals};
 ghost use Rattle.leaving.specs.Seats.{Seated, Owned};

@@ -1,4 +1,6 @@
 // What remains in the buffer at the end of a fill: the owners that the passes left, and the numbers.
+#![tactic(auto)]
+
 ghost use Rattle.std.specs.Prelude.{◌≡◌, not, ◌≤◌, eqb, length, take};
 ghost use Rattle.columns.specs.Lists.{count_i};
 ghost use Rattle.columns.specs.Laid.{laid_at};

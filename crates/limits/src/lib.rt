@@ -1,5 +1,7 @@
 // The limits of a fill that are plain numbers, each a test of its own: the sizes asked for, the rows lent, the set's room, the slot numbers
 // left.
+#![tactic(auto)]
+
 ghost use Rattle.std.specs.Prelude.{◌≡◌, ◌-◌, ◌≤◌, min, ltb, length, get_or};
 ghost use Rattle.limits.specs.Limits.{rows_in, key_rows, skips_in, too_large, many_skips, used_up};
 

@@ -1,4 +1,6 @@
 // Lines of numbers: one space apart, LF at the end. The numbers of a line go to a table, as many to a row as the line has.
+#![tactic(auto)]
+
 ghost use Rattle.std.specs.Prelude.{◌≡◌, cond, ◌+◌, ◌*◌, ◌≤◌, ◌<◌, ltb, length};
 ghost use Rattle.lines.specs.Steps.{ReadsLine, ReadsLines};
 

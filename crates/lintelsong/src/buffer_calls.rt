@@ -1,8 +1,8 @@
 // The calls on a buffer. Each hands what the buffer holds to the call of crate `buffers` (what is read) or `changes`, and encloses what comes back.
 ghost use Rattle.std.specs.Prelude.{◌≡◌, length, ◌/◌};
 ghost use Rattle.rules.specs.World.{least_read};
-ghost use Rattle.rules.specs.Queues.{queued as queuedOf, account_at, message_at};
-ghost use Rattle.rules.specs.Calls.{is_open, set_up_buffer, add_message, remove_accounts, begin as beginBy, commit as commitBy, rollback as rollbackBy};
+ghost use Rattle.rules.specs.Queues.{queued as queued_of, account_at, message_at};
+ghost use Rattle.rules.specs.Calls.{is_open, set_up_buffer, add_message, remove_accounts, begin as begin_by, commit as commit_by, rollback as rollback_by};
 ghost use Rattle.columns.specs.Rows.{rows_of};
 ghost use Rattle.message.specs.Real.{Real, offer};
 ghost use Rattle.message.specs.Seen.{seen_account, seen_message};
@@ -76,7 +76,7 @@ impl Buffer {
     // Opens a transaction: code 7 if one is open.
     pub fn begin(self) -> Answer
         requires { GoodBuffer self }
-        ensures { Gives (beginBy Real (meant (cols_of self))) (begin_c (cols_of self)) result.code result.buffer }
+        ensures { Gives (begin_by Real (meant (cols_of self))) (begin_c (cols_of self)) result.code result.buffer }
     {
         let begun = changes::begin(self.held);
         let code = begun.code;
@@ -90,7 +90,7 @@ impl Buffer {
     // Ends a transaction and leaves the buffer as it is: code 6 if none is open.
     pub fn commit(self) -> Answer
         requires { GoodBuffer self }
-        ensures { Gives (commitBy Real (meant (cols_of self))) (commit_c (cols_of self)) result.code result.buffer }
+        ensures { Gives (commit_by Real (meant (cols_of self))) (commit_c (cols_of self)) result.code result.buffer }
     {
         let committed = changes::commit(self.held);
         let code = committed.code;
@@ -104,7 +104,7 @@ impl Buffer {
     // Ends a transaction and gives back every queue, the order, the counts and the minimum as at begin: code 6 if none is open.
     pub fn rollback(self) -> Answer
         requires { GoodBuffer self }
-        ensures { Gives (rollbackBy Real (meant (cols_of self))) (rollback_c (cols_of self)) result.code result.buffer }
+        ensures { Gives (rollback_by Real (meant (cols_of self))) (rollback_c (cols_of self)) result.code result.buffer }
     {
         let undone = changes::rollback(self.held);
         let code = undone.code;
@@ -152,7 +152,7 @@ impl Buffer {
     // How many messages the queue of an account holds; 0 if it has none.
     pub fn account_messages_count(self, name: [u8; 32]) -> usize
         requires { GoodBuffer self }
-        ensures { result ≡ queuedOf Real name (meant (cols_of self)).now }
+        ensures { result ≡ queued_of Real name (meant (cols_of self)).now }
     {
         buffer_walks::account_messages_count(self.held, name)
     }

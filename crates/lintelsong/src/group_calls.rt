@@ -1,7 +1,7 @@
 // The calls on a group. Each hands what the group holds to the call of that name in crate `groups`, and encloses what comes back.
 ghost use Rattle.std.specs.Prelude.{◌≡◌, [], get_or};
 ghost use Rattle.rules.specs.World.{nth, is_nil};
-ghost use Rattle.rules.specs.Queues.{has, at as listAt, accounts as accounts_of};
+ghost use Rattle.rules.specs.Queues.{has, at as list_at, accounts as accounts_of};
 ghost use Rattle.rules.specs.Fill.{is_filled};
 ghost use Rattle.message.specs.Real.{Real};
 ghost use Rattle.message.specs.Seen.{seen_account, seen_message};
@@ -115,7 +115,7 @@ impl Group {
     // The k-th message of an account's list; none past the end or without a list.
     pub fn message_at(self, name: [u8; 32], k: usize) -> SeenMessage
         requires { GoodGroup self }
-        ensures { result ≡ seen_message (nth k (listAt Real name (meant (table_of self)).now.lists)) }
+        ensures { result ≡ seen_message (nth k (list_at Real name (meant (table_of self)).now.lists)) }
     {
         group_walks::message_at(self.held, name, k)
     }

@@ -1,5 +1,7 @@
 // The public face: closed types by value, and every call on them. Each call takes whatever it is handed, ends, and does its job or gives a
 // refusal from the table of codes; a refused call gives back what it was handed. What a type holds is seen in this crate alone.
+#![tactic(auto)]
+
 pub mod buffer_calls;
 pub mod fill_calls;
 pub mod group_calls;

@@ -1,5 +1,7 @@
 // The walk meets an account, on lent columns of numbers: the tests of an account and of a slot, and one account checked, passed over or moved. A
 // slot is given by its position among the slots and its record, an account by its party; the places of the order are the parties below `places`.
+#![tactic(auto)]
+
 ghost use Rattle.std.specs.Prelude.{◌≡◌, cond, false, ◌+◌, ◌<◌, length};
 ghost use Rattle.moves.specs.Moves.{alone};
 ghost use Rattle.meaning.specs.Meaning.{columns};

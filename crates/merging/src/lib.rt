@@ -1,5 +1,7 @@
 // The join on lent columns: refused, or the right's rows behind the left's and the right cleared. The left's columns come first, then the
 // right's (with a 2). Nothing is copied that stays, and of the right only the cells in use are cleared.
+#![tactic(auto)]
+
 ghost use Rattle.std.specs.Prelude.{◌≡◌, get_or};
 ghost use Rattle.slots.specs.Table.{table};
 ghost use Rattle.slots.specs.Good.{Good};

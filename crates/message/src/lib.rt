@@ -1,5 +1,7 @@
 // A message as it comes, what its kind byte says, the account it is for, the filter that makes an old external droppable, and the codes
 // that every call answers with.
+#![tactic(auto)]
+
 ghost use Rattle.std.specs.Prelude.{◌≡◌};
 ghost use Rattle.message.specs.Answers.{number, kind_of};
 ghost use Rattle.message.specs.Records.{account_of, blank_message, drops};

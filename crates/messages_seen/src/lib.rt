@@ -1,5 +1,7 @@
 // The messages of a group as they are seen, on lent columns: those of an account's list, in their order. The call by value and the export are
 // made of this.
+#![tactic(auto)]
+
 ghost use Rattle.std.specs.Prelude.{◌≡◌, ◌≤◌, length, get_or};
 ghost use Rattle.accounts_seen.specs.Accounts.{AccountsIn};
 ghost use Rattle.messages_seen.specs.Messages.{row_for, message_found, MessagesIn};

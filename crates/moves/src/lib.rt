@@ -3,6 +3,8 @@
 // holds it, or a mark of a row that was taken or dropped.
 // `plan` does not change in a fill: cells 0 to 1,023 are the class of each row, 0 for an internal, 1 for an external, 2 for a droppable one;
 // 1,024 to 2,047 the next row of the same queue; 2,048 to 2,303 the first row of each place.
+#![tactic(auto)]
+
 ghost use Rattle.std.specs.Prelude.{◌≡◌, ◌+◌, ◌-◌, ◌<◌, ◌≤◌, length, eqb};
 ghost use Rattle.moves.specs.Moves.{marks, check_marks, homes, enter_homes, nowhere};
 ghost use Rattle.moves.specs.Good.{GoodMarks, many};

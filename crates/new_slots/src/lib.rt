@@ -1,4 +1,6 @@
 // How far the first pass has come with the slots to be opened: one more opened, or the one begun dropped as empty.
+#![tactic(auto)]
+
 ghost use Rattle.std.specs.Prelude.{◌≡◌, ◌+◌, ◌<◌};
 ghost use Rattle.new_slots.specs.Fronts.{further_on, dropped_at};
 

@@ -1,4 +1,6 @@
 // The numbers of a join: slots, accounts, messages, internals and externals of both groups together, and the last slot number.
+#![tactic(auto)]
+
 ghost use Rattle.std.specs.Prelude.{◌≡◌};
 ghost use Rattle.slots.specs.Join.{joined_numbers_by};
 ghost use Rattle.number_joins.specs.Sums.{Summable};

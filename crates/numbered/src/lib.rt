@@ -1,5 +1,7 @@
 // The columns on numbers of one fill as one value: `begin` makes them of what the buffer, the group, the skipped set and the skip rows hold,
 // and `run` does the passes on them.
+#![tactic(auto)]
+
 ghost use Rattle.std.specs.Prelude.{◌≡◌, ◌≤◌, length};
 ghost use Rattle.buckets.specs.Cells.{GoodBuckets};
 ghost use Rattle.entry.specs.Entry.{sayings, Spoken};

@@ -1,5 +1,7 @@
 // Numbers that several crates share: the sum that stops at the greatest number, the two kinds of number that are kept apart by their
 // types, and bytes and shorts made wide enough to be an index.
+#![tactic(auto)]
+
 ghost use Rattle.std.specs.Prelude.{◌≡◌, ◌+◌, ◌-◌, ◌^◌, ◌<◌, min};
 
 // A slot's number. Numbers go on from the last one given, so they are not places in the slot table.

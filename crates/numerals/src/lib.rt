@@ -1,6 +1,8 @@
 // A number in a text: decimal, with no zero in front, not above its limit, and ended by a stop byte.
+#![tactic(auto)]
+
 ghost use Rattle.std.specs.Prelude.{◌≡◌, false, ◌≤◌, length};
-ghost use Rattle.sheet_rules.specs.Sheet.{plain as plainBy};
+ghost use Rattle.sheet_rules.specs.Sheet.{plain as plain_by};
 ghost use Rattle.numerals.specs.Steps.{Bounds, ReadsNumber};
 
 use words::decimal::Number;
@@ -26,7 +28,7 @@ fn nothing() -> Numeral
 
 // Whether a word has no zero in front of other bytes.
 fn plain(word: &[u8]) -> bool
-    ensures { result ≡ plainBy word.now }
+    ensures { result ≡ plain_by word.now }
 {
     word.len() < 2 || word[0] != 48
 }

@@ -1,5 +1,7 @@
 // The first pass of a fill on lent columns of numbers and the table of slot records: slots are opened, and then the waiting line is served. `number`
 // holds the slots' numbers by position.
+#![tactic(auto)]
+
 ghost use Rattle.std.specs.Prelude.{◌≡◌, [], ◌+◌, ◌<◌, ◌≤◌, length};
 ghost use Rattle.slot_rows.specs.Rows.{ints_of, exts_of};
 ghost use Rattle.meaning.specs.Meaning.{columns};

@@ -1,4 +1,6 @@
 // Whether the index lists a slot below the height that holds more than the height.
+#![tactic(auto)]
+
 ghost use Rattle.std.specs.Prelude.{◌≡◌, ◌≤◌, length, take};
 ghost use Rattle.buckets.specs.Cells.{index, GoodBuckets};
 ghost use Rattle.rules.specs.World.{joined};

@@ -1,4 +1,6 @@
 // The column of owners packed by itself: each owner that is a place moves up, and the freed cells are fresh.
+#![tactic(auto)]
+
 ghost use Rattle.std.specs.Prelude.{◌≡◌, ◌≤◌, length};
 ghost use Rattle.columns.specs.Laid.{Packs, packed, held};
 

@@ -1,4 +1,6 @@
 // A column packed by its owners: what is held moves to the front in order, and what is behind it is freed. Owners are told apart and counted.
+#![tactic(auto)]
+
 ghost use Rattle.std.specs.Prelude.{◌≡◌, ◌*◌, ◌≤◌, eqb, length};
 ghost use Rattle.columns.specs.Lists.{count_i};
 ghost use Rattle.columns.specs.Laid.{Packs, packed, is_place, held};

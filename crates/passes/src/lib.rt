@@ -2,6 +2,8 @@
 // `ending`), all of it between the entry of a fill and the update of the index. `number` holds the slots' numbers by position; `listed` the
 // numbers of the slots that the index lists below the height, in its order. Between the columns `ints` and `exts`, read at the start and
 // written at the end, the slots are a table of records (crate `slot_rows`).
+#![tactic(auto)]
+
 ghost use Rattle.std.specs.Prelude.{◌≡◌, ◌+◌, ◌≤◌, length, take};
 ghost use Rattle.meaning.specs.Meaning.{columns};
 ghost use Rattle.meaning.specs.Walks.{Ready};

@@ -1,4 +1,6 @@
 // The inside of a fill that is taken: its entry makes the columns of numbers, and the passes run on them.
+#![tactic(auto)]
+
 ghost use Rattle.std.specs.Prelude.{◌≡◌, length, get_or};
 ghost use Rattle.entry.specs.Entry.{sayings};
 ghost use Rattle.works.specs.Begin.{accounts as accounts_of, held as held_of, slots as slots_of};

@@ -1,4 +1,6 @@
 // The plan of a fill, made at its entry: the class of each row, and the chain of each queue; and the owners, copied.
+#![tactic(auto)]
+
 ghost use Rattle.std.specs.Prelude.{◌≡◌, ℕ, ◌+◌, ◌-◌, ◌<◌, ◌≤◌, length, get_or};
 ghost use Rattle.entry.specs.Entry.{classes_c, owners_c, link_c};
 

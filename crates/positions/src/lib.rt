@@ -1,4 +1,6 @@
 // Where a slot stands among the slots, by its number.
+#![tactic(auto)]
+
 ghost use Rattle.std.specs.Prelude.{◌≡◌, ◌≤◌, length};
 ghost use Rattle.meaning.specs.Passes.{position_from};
 

@@ -13,15 +13,15 @@ abbrev pub copied : (from to n : ℕ) → List ℕ → List ℕ
 copied from to n xs = laid_at to (take n (drop from xs)) xs
 
 -- n messages and a accounts copied from one half to the other, which begin at these rows
-unfoldable pub copied_c : (from to : ℕ) (placesFrom placesTo : ℕ) (n a : ℕ) → Cols → Cols
-copied_c from to placesFrom placesTo n a c = record {
+unfoldable pub copied_c : (from to : ℕ) (places_from places_to : ℕ) (n a : ℕ) → Cols → Cols
+copied_c from to places_from places_to n a c = record {
   owner = copied from to n c.owner;
   kind = copied from to n c.kind;
   form = copied from to n c.form;
   time = copied from to n c.time;
   address = copied (32 * from) (32 * to) (32 * n) c.address;
   hash = copied (32 * from) (32 * to) (32 * n) c.hash;
-  accounts = copied (32 * placesFrom) (32 * placesTo) (32 * a) c.accounts;
+  accounts = copied (32 * places_from) (32 * places_to) (32 * a) c.accounts;
   numbers = c.numbers;
 }
 

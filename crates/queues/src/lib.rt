@@ -1,4 +1,6 @@
 // What is read off the queues: how many messages an account has, and in which row the next one stands.
+#![tactic(auto)]
+
 ghost use Rattle.std.specs.Prelude.{◌≡◌, ◌*◌, ◌≤◌, length};
 ghost use Rattle.queues.specs.Look.{seat_of, owned_by, row_of};
 

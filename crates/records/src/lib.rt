@@ -1,4 +1,6 @@
 // A message record spread over columns: its form as a byte, and the record read back from a row.
+#![tactic(auto)]
+
 ghost use Rattle.std.specs.Prelude.{◌≡◌, ◌+◌, ◌*◌, ◌≤◌, ◌<◌, length};
 ghost use Rattle.records.specs.Records.{form_byte, form_of, message_at, HasRow};
 

@@ -1,4 +1,6 @@
 // Whether a fill is taken: codes 9 to 13, the lowest that fits, before anything changes. The tests are those of `limits` and `over_height`.
+#![tactic(auto)]
+
 ghost use Rattle.std.specs.Prelude.{◌≡◌};
 ghost use Rattle.refusals.specs.Refusals.{MayDecide, code_c};
 

@@ -1,4 +1,6 @@
 // The numbers of what a removal leaves: messages, accounts and internals counted, and the index of the accounts that stay.
+#![tactic(auto)]
+
 ghost use Rattle.std.specs.Prelude.{◌≡◌, ◌*◌, ◌-◌, ◌≤◌, length};
 ghost use Rattle.index.specs.Names.{indexed_by};
 ghost use Rattle.queues.specs.Compact.{left_numbers};

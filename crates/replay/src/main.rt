@@ -1,4 +1,6 @@
 // Reads scenarios on standard input and prints what the buffer and the groups answer and hold, in the language of docs/SCENARIOS.md.
+#![tactic(auto)]
+
 ghost use Rattle.std.specs.Prelude.{◌≤◌};
 ghost use Rattle.desk.specs.Desks.{KeyRoom};
 ghost use Rattle.replay.specs.Runs.{Ready};

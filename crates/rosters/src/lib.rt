@@ -1,5 +1,7 @@
 // The roster of the slots: each slot's own accounts as a chain of members, so that a visit to a slot looks at no account of another. A member is
 // a position in the column `member`; its home is the position of its slot.
+#![tactic(auto)]
+
 ghost use Rattle.std.specs.Prelude.{◌≡◌, ℕ, ◌<◌, ◌≤◌, length, get_or};
 ghost use Rattle.rosters.specs.Rosters.{first_in, next_in, home_in, behind, appended, Listed};
 

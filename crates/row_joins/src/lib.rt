@@ -1,4 +1,6 @@
 // The rows of a join: the right's accounts, messages and records behind the left's, column by column. Nothing is copied that stays.
+#![tactic(auto)]
+
 ghost use Rattle.std.specs.Prelude.{length};
 ghost use Rattle.slots.specs.Join.{AccountsJoined, MessagesJoined, RecordsJoined};
 ghost use Rattle.row_joins.specs.Rooms.{AccountRoom, MessageRoom, RecordRoom};

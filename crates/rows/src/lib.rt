@@ -1,4 +1,6 @@
 // Rows of 32 bytes in a flat column: compared, read, written, copied and looked for.
+#![tactic(auto)]
+
 ghost use Rattle.std.specs.Prelude.{◌≡◌, ◌+◌, ◌*◌, ◌≤◌, length};
 ghost use Rattle.numbers.specs.Bytes.{eq_l};
 ghost use Rattle.columns.specs.Laid.{laid_at};

@@ -6,7 +6,7 @@ use Rattle.std.proofs.Math.Option.{Option, none, some}
 use Rattle.rules.specs.World.{World, Row, Slot, Filter, Skip, Args, is_nil, least_read}
 use Rattle.rules.specs.Queues.{held_ints, held_exts, held_accounts, full_by_count, full_by_slots}
 use Rattle.rules.specs.Fill.{is_filled, group_ints, group_exts, group_accounts, group_slots}
-use Rattle.rules.specs.Calls.{Store, Target, Offer, Answer, FillAnswer, is_open, set_up_buffer, set_up_group, add_message, remove_accounts, begin as beginCall, commit as commitCall, rollback as rollbackCall, fill_group, join_groups}
+use Rattle.rules.specs.Calls.{Store, Target, Offer, Answer, FillAnswer, is_open, set_up_buffer, set_up_group, add_message, remove_accounts, begin as begin_call, commit as commit_call, rollback as rollback_call, fill_group, join_groups}
 
 pub record Note : Type 0 where
   pub kind : ℕ
@@ -176,9 +176,9 @@ does (buffer M A) d = with_store d (set_up_buffer W M A)
 does (group g S) d = let t = set_up_group W S in with_groups d (placed g t.after d.groups) t.code
 does (add k s o a t h) d = with_store d (add_message W (offered k s o a t h) d.store)
 does (remove names) d = with_store d (remove_accounts W names d.store)
-does begin d = with_store d (beginCall W d.store)
-does commit d = with_store d (commitCall W d.store)
-does rollback d = with_store d (rollbackCall W d.store)
+does begin d = with_store d (begin_call W d.store)
+does commit d = with_store d (commit_call W d.store)
+does rollback d = with_store d (rollback_call W d.store)
 does rows d = with_skips d [] d.cost d.skipped
 does (row a v c) d =
     -- "up to 300 are kept"

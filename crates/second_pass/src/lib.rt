@@ -1,5 +1,7 @@
 // The second pass of a fill on lent columns of numbers and the table of slot records: a visit to each listed slot that stood at entry. `number`
 // holds the slots' numbers by position; `listed` the numbers of the slots that the index lists below the height, in its order.
+#![tactic(auto)]
+
 ghost use Rattle.std.specs.Prelude.{◌≡◌, ◌<◌, ◌≤◌, length, take};
 ghost use Rattle.slot_rows.specs.Rows.{ints_of, exts_of};
 ghost use Rattle.meaning.specs.Meaning.{columns};

@@ -1,5 +1,7 @@
 // A section of a sheet: its count, and so many lines behind it. The three sections differ in how many lines they may have, and in what the
 // numbers of a line may be.
+#![tactic(auto)]
+
 ghost use Rattle.std.specs.Prelude.{◌*◌, ◌≤◌, ◌<◌, length};
 ghost use Rattle.sheet_rules.specs.Sheet.{skip_limits, message_limits, fill_limits};
 ghost use Rattle.sections.specs.Steps.{ReadsSection};

@@ -1,5 +1,7 @@
 // The waiting line of the first pass on lent columns of numbers and the table of slot records: slots that got an account and still have room wait
 // for the next one.
+#![tactic(auto)]
+
 ghost use Rattle.std.specs.Prelude.{◌≡◌, ℕ, ◌+◌, ◌-◌, ◌<◌, ◌≤◌, length, get_or};
 ghost use Rattle.slot_rows.specs.Rows.{ints_of, exts_of};
 ghost use Rattle.meaning.specs.Meaning.{columns};

@@ -25,7 +25,7 @@ use Rattle.rules.specs.Fill.{buffer_after}
 use Rattle.rules.specs.Calls.{with_now}
 use Rattle.message.specs.Real.{Real}
 use Rattle.queues.specs.Cols.{Cols, Half, live, number, with_numbers}
-use Rattle.queues.specs.Cols.{kept as keptHalf}
+use Rattle.queues.specs.Cols.{kept as kept_half}
 use Rattle.queues.specs.Meant.{message_in, row_in, order_of, buffer_of, if_marked, meant}
 use Rattle.queues.specs.Good.{Long, Good}
 use Rattle.queues.proofs.Indexing.{live_indexed, meant_indexed}
@@ -258,7 +258,7 @@ module _ {ext : ℕ → Bool} {time : ℕ → ℕ} {f : Renaming (Numbers ext ti
   pub number_stays : (k : ℕ) → (k ≡ 2 → ⊥) → (k ≡ 3 → ⊥) → (k ≡ 4 → ⊥) → (k ≡ 5 → ⊥) → (k ≡ 6 → ⊥) → (k ≡ 7 → ⊥) → get_or counts_left k 0 ≡ number c k
   number_stays = count_stays messages_left places_left _ c.numbers
 
-  pub kept_stays : keptHalf (with_numbers counts_left made) ≡ keptHalf c
+  pub kept_stays : kept_half (with_numbers counts_left made) ≡ kept_half c
   kept_stays =
       let owner = drop_laid 0 (take (number c 2) left) c.owner fits 1024 (omega (arith, taken_long, few)) in
       let messages = number_stays 9 (λ e. omega arith) (λ e. omega arith) (λ e. omega arith) (λ e. omega arith) (λ e. omega arith) (λ e. omega arith) in

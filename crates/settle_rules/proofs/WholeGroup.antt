@@ -15,7 +15,7 @@ use Rattle.queues.specs.Cols.{Cols}
 use Rattle.queues.specs.Meant.{if_marked}
 use Rattle.buckets.specs.Cells.{index}
 use Rattle.buckets.specs.Moves.{Plain, Leaves}
-use Rattle.buckets.specs.Moves.{slots_of as plainSlots}
+use Rattle.buckets.specs.Moves.{slots_of as plain_slots}
 use Rattle.buckets.proofs.Worlds.{reindex_any}
 use Rattle.slots.specs.Table.{Table, count}
 use Rattle.slots.specs.Meant.{group_of}
@@ -30,7 +30,7 @@ pub index_after : {ext : ℕ → Bool} {time : ℕ → ℕ} (fx : Fixed) (b : Se
     (olds news cells made : List ℕ) → OnceN (take b.slots b.number) → b.slots ≤ length b.number
     → ((j : ℕ) → j < b.slots → queues.count_of (Numbers ext time) (get_or b.number j 0) entry ≡ get_or olds j 0)
     → ((j : ℕ) → j < b.slots → get_or m.store.ints j 0 + get_or m.store.exts j 0 ≡ get_or news j 0)
-    → Leaves (reindexed Plain (plainSlots b.number olds b.slots) (plainSlots b.number news b.slots) 0 (index cells)) made
+    → Leaves (reindexed Plain (plain_slots b.number olds b.slots) (plain_slots b.number news b.slots) 0 (index cells)) made
     → index made ≡ reindexed (Numbers ext time) entry (state_of ext time fx b o m).slots 0 (index cells)
 unfolding state_of queues.count
 index_after {ext} {time} fx b o m entry olds news cells made once long before now left =

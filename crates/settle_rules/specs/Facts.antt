@@ -13,7 +13,7 @@ use Rattle.queues.specs.Good.{Zeros, Good}
 use Rattle.queues.specs.Good.{Long as Cols-long}
 use Rattle.buckets.specs.Cells.{index}
 use Rattle.buckets.specs.Moves.{Plain, Leaves}
-use Rattle.buckets.specs.Moves.{slots_of as plainSlots}
+use Rattle.buckets.specs.Moves.{slots_of as plain_slots}
 use Rattle.slots.specs.Table.{Table, count}
 use Rattle.slots.specs.Meant.{listed, group_of}
 use Rattle.slots.specs.Good.{Good as GroupGood}
@@ -105,8 +105,8 @@ pub record TableSettled (t t' : Table) (c : Cols) (x : RanC) (k : ℕ) (seat₀ 
       ≡ in_counts x.slots x.now.store.tally.accounts x.now.store.tally.taken
       (rank (is_key x.now.store.taken c.kind) x.now.store.tally.taken) k x.last t.numbers
   pub buckets : Leaves
-      (reindexed Plain (plainSlots x.number (held_by 64 t.ints t.exts) x.slots)
-      (plainSlots x.number (held_by 64 x.now.store.ints x.now.store.exts) x.slots) 0 (index t.buckets))
+      (reindexed Plain (plain_slots x.number (held_by 64 t.ints t.exts) x.slots)
+      (plain_slots x.number (held_by 64 x.now.store.ints x.now.store.exts) x.slots) 0 (index t.buckets))
       t'.buckets
 
 -- what else makes the settled group well formed: the buffer was, the cells behind the slots hold nothing, the slots and the last number have

@@ -1,4 +1,6 @@
 // The end of a fill: what a run left on numbers goes to the key list, the skipped set, the group and the buffer.
+#![tactic(auto)]
+
 ghost use Rattle.std.specs.Prelude.{◌≡◌, length};
 ghost use Rattle.queues.specs.Cols.{cols};
 ghost use Rattle.slots.specs.Table.{table};

@@ -1,4 +1,6 @@
 // Answers the sheet on standard input. One byte more than a sheet may have is read, which tells that it is too long; the rest is left.
+#![tactic(auto)]
+
 ghost use Rattle.std.specs.Prelude.{◌≡◌, length};
 
 // Room for the longest sheet and one byte.

@@ -1,6 +1,8 @@
 // What a sheet works on, and its messages, added in order. A refused one is told of in a line.
+#![tactic(auto)]
+
 ghost use Rattle.std.specs.Prelude.{◌≡◌, ◌+◌, ◌*◌, ◌≤◌, length};
-ghost use Rattle.sheet_rows.specs.Answer.{fresh as freshHeld, added, adds};
+ghost use Rattle.sheet_rows.specs.Answer.{fresh as fresh_held, added, adds};
 ghost use Rattle.sheet_adds.specs.Steps.{meant_by, GoodState, Tells};
 
 use lintelsong::{Buffer, Group, Skipped};
@@ -23,7 +25,7 @@ pub struct Reached {
 
 // The start: room for 256 messages of 64 accounts and for 16 slots, and an empty set.
 pub fn fresh() -> State
-    ensures { GoodState result × (meant_by result ≡ freshHeld) }
+    ensures { GoodState result × (meant_by result ≡ fresh_held) }
 {
     let b = Buffer::set_up(256, 64);
     let buffer = b.buffer;

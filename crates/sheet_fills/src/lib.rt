@@ -1,10 +1,12 @@
 // A fill of a sheet: its skip rows laid out, the fill done, and its two lines.
+#![tactic(auto)]
+
 ghost use Rattle.std.specs.Prelude.{◌+◌, ◌≤◌, length};
 ghost use Rattle.rules.specs.Calls.{fill_group};
 ghost use Rattle.message.specs.Answers.{number as number_of};
 ghost use Rattle.message.specs.Real.{Real};
-ghost use Rattle.queues.specs.Meant.{meant as storeMeant};
-ghost use Rattle.slots.specs.Meant.{meant as targetMeant};
+ghost use Rattle.queues.specs.Meant.{meant as store_meant};
+ghost use Rattle.slots.specs.Meant.{meant as target_meant};
 ghost use Rattle.display.specs.Pieces.{Puts};
 ghost use Rattle.lintelsong.specs.Closed.{cols_of, table_of, accounts_in, GoodBuffer, GoodGroup, GoodSet};
 ghost use Rattle.sheet_rows.specs.Answer.{no_keys, fill_lines};
@@ -21,7 +23,7 @@ use lintelsong::{Buffer, Group, Skipped};
 // One fill. Nothing is told of the key list, so each fill has its own.
 pub fn fill(b: Buffer, g: Group, s: Skipped, rows: Rows, asked: Asked) -> FillAnswer
     requires { GoodBuffer b × GoodGroup g × GoodSet s × GoodRows rows }
-    ensures { FillsBy (fill_group Real (args_of (skips_in rows) asked) no_keys (storeMeant (cols_of b)) (targetMeant (table_of g)) (accounts_in s)) result }
+    ensures { FillsBy (fill_group Real (args_of (skips_in rows) asked) no_keys (store_meant (cols_of b)) (target_meant (table_of g)) (accounts_in s)) result }
 {
     let size = 32 * rows.count;
     let names = rows.names;
@@ -44,7 +46,7 @@ pub fn fill(b: Buffer, g: Group, s: Skipped, rows: Rows, asked: Asked) -> FillAn
 // The two lines of a fill: its numbers, and the group's Display line.
 pub fn put(f: FillAnswer, number: u64, out: &mut [u8], at: usize) -> usize
     requires { GoodGroup f.group × (at + 247 ≤ length out.old) }
-    ensures { Puts (fill_lines number (number_of f.code) f.collected f.operations f.dropped (targetMeant (table_of f.group))) 247 at out.old out.new result }
+    ensures { Puts (fill_lines number (number_of f.code) f.collected f.operations f.dropped (target_meant (table_of f.group))) 247 at out.old out.new result }
 {
     let code = f.code;
     let c = numbers::wide8(message::number_of(code));

@@ -1,5 +1,7 @@
 // What a row of a sheet says: a message, or what a fill is asked for. Rows are counted from 0, and a row's numbers stand one behind the other
 // in a table of cells.
+#![tactic(auto)]
+
 ghost use Rattle.std.specs.Prelude.{◌≡◌, ◌+◌, ◌*◌, ◌≤◌, length};
 ghost use Rattle.sheet_rows.specs.Answer.{message_at};
 ghost use Rattle.sheet_rows.specs.Asking.{Asks};

@@ -1,4 +1,6 @@
 // A sheet answered: it is read, its messages are added, its fills are done, and the lines of its answer are put into what is lent.
+#![tactic(auto)]
+
 ghost use Rattle.std.specs.Prelude.{◌+◌, ◌≤◌, length};
 ghost use Rattle.display.specs.Pieces.{Puts};
 ghost use Rattle.lintelsong.specs.Closed.{cols_of, GoodBuffer};

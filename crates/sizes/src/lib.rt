@@ -1,5 +1,7 @@
 // The size that a set-up gives: the one asked for, or room for one message of one account, or for one slot. Set-up by value and set-up of lent
 // columns both ask here.
+#![tactic(auto)]
+
 ghost use Rattle.std.specs.Prelude.{◌≡◌};
 ghost use Rattle.rules.specs.Calls.{within as in_range};
 ghost use Rattle.sizes.specs.Sizes.{size_for, slots_for};

@@ -1,5 +1,7 @@
 // The skipped set: accounts that fills pass over, at most 512. Its fields are open to the crates of this repository; callers from outside
 // hold the closed one of crate `lintelsong`.
+#![tactic(auto)]
+
 ghost use Rattle.std.specs.Prelude.{◌≡◌, [], length};
 ghost use Rattle.rules.specs.World.{nth};
 ghost use Rattle.rules.specs.Queues.{is_in};

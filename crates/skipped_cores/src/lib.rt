@@ -1,4 +1,6 @@
 // What each export of a skipped set does, on lent fields: set-up, and each read with its answer in numbers. A test answers 1 or 0.
+#![tactic(auto)]
+
 ghost use Rattle.std.specs.Prelude.{◌≡◌, []};
 ghost use Rattle.rules.specs.World.{nth};
 ghost use Rattle.rules.specs.Queues.{is_in};

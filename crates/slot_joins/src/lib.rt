@@ -1,4 +1,6 @@
 // The slots of a join: the right's behind the left's, numbered from the first new number on, and each listed in the bucket of its count.
+#![tactic(auto)]
+
 ghost use Rattle.std.specs.Prelude.{length};
 ghost use Rattle.slots.specs.Join.{SlotsJoined};
 ghost use Rattle.slot_joins.specs.Slots.{SlotRoom, MayAddSlots, SlotsAdded};

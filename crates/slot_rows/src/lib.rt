@@ -1,5 +1,7 @@
 // The table of slot records. A visit takes one record by value and hands it back; here it is written back into its place of a lent row. The
 // borrow checker does not cover a lent row of structs: `write`, which has one, and `write_table`, which lends one, are proved by hand.
+#![tactic(auto)]
+
 ghost use Rattle.std.specs.Prelude.{◌≡◌, ◌<◌, length, set};
 ghost use Rattle.slot_rows.specs.Rows.{ints_of, exts_of};
 

@@ -1,4 +1,6 @@
 // A group on columns. Its tables stand in specs/; what is read off them by more than a number is here.
+#![tactic(auto)]
+
 ghost use Rattle.std.specs.Prelude.{◌≡◌, ◌≤◌, length, get_or};
 ghost use Rattle.queues.specs.Look.{row_of};
 ghost use Rattle.slots.specs.Join.{next_by};

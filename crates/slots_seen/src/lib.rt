@@ -1,5 +1,7 @@
 // The slots of a group as they are seen, on lent columns: by rising number, and by the bucket that lists them. Each gives its answer as a value;
 // the calls by value and the exports are made of these.
+#![tactic(auto)]
+
 ghost use Rattle.std.specs.Prelude.{◌≡◌, length};
 ghost use Rattle.buckets.specs.Cells.{GoodBuckets};
 ghost use Rattle.slots_seen.specs.Slots.{slot_found, entry_in, id_found, SlotsIn};

@@ -1,5 +1,7 @@
 // Whether a fill has nothing to do: it opens no slot, no slot is listed below the height, the filter is off, and the order has an account.
 // Such a fill costs one operation per account and changes nothing, so it ends before its entry.
+#![tactic(auto)]
+
 ghost use Rattle.std.specs.Prelude.{◌≡◌};
 ghost use Rattle.standstill.specs.Idle.{idle_c};
 

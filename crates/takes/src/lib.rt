@@ -1,8 +1,10 @@
 // The queue of a party, walked along its chain (`plan`, crate `moves`), so that no row of another is looked at: passing over it, counting it, taking
 // from its front.
+#![tactic(auto)]
+
 ghost use Rattle.std.specs.Prelude.{◌≡◌, ◌+◌, ◌-◌, ◌<◌, ◌≤◌, length};
 ghost use Rattle.columns.specs.Lists.{count_i};
-ghost use Rattle.moves.specs.Moves.{lapsed as lapsedOf, pass_owners, take_c, TookIs, queued_c, wanted_c};
+ghost use Rattle.moves.specs.Moves.{lapsed as lapsed_of, pass_owners, take_c, TookIs, queued_c, wanted_c};
 ghost use Rattle.moves.specs.Good.{live};
 ghost use Rattle.moves.specs.Linked.{first_of, next_of, Linked};
 
@@ -42,7 +44,7 @@ fn next_of(plan: &[u16; 2304], row: usize) -> usize
 
 // Whether a row of this owner and class is a droppable one of a party.
 fn lapsed(owner: u16, class: u16, party: usize) -> bool
-    ensures { result ≡ lapsedOf party owner class }
+    ensures { result ≡ lapsed_of party owner class }
 {
     if numbers::wide16(owner) == party {
         return class == 2;

@@ -1,5 +1,7 @@
 // The lines of a sheet's answer that hold many numbers: that of a fill, and that of what is left. Each is put behind the first `at` bytes of
 // what is lent, where there is room for the longest such line, and the answer is where it ends.
+#![tactic(auto)]
+
 ghost use Rattle.std.specs.Prelude.{◌+◌, ◌≤◌, length};
 ghost use Rattle.display.specs.Pieces.{Puts};
 ghost use Rattle.answers.specs.Answer.{fill_line, left_line};

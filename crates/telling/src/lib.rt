@@ -1,5 +1,7 @@
 // What a fill tells beside what it moves: the keys of the internals taken go to the key list, and the accounts of the parties that joined to
 // the skipped set.
+#![tactic(auto)]
+
 ghost use Rattle.std.specs.Prelude.{◌≡◌, ◌*◌, ◌<◌, length};
 ghost use Rattle.columns.specs.Laid.{laid_at};
 ghost use Rattle.columns.specs.Rows.{flat};

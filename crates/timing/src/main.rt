@@ -1,6 +1,8 @@
 // Does one fill over and over on the same full buffer, so that it can be timed from outside (tools/speed). It reads one line, `slots height
 // filter refused repeats`, and prints one: over all fills, how many messages were collected, the operations, and how many were dropped; then
 // what the last one left, messages in the buffer, and slots, accounts and messages in the group.
+#![tactic(auto)]
+
 ghost use Rattle.std.specs.Prelude.{◌≡◌, length};
 ghost use Rattle.lintelsong.specs.Closed.{GoodBuffer};
 ghost use Rattle.timing.specs.Fills.{GoodAnswer};

@@ -34,17 +34,17 @@ use Rattle.transactions.specs.Halves.{Halves, Commits}
 pub fits_32 : {x : ℕ} → x ≤ 1024 → Fits w64 (32 * x)
 fits_32 l = record { fits = omega arith }
 
-module _ {from to placesFrom placesTo n a : ℕ} (h : Halves from to placesFrom placesTo n a) where
+module _ {from to places_from places_to n a : ℕ} (h : Halves from to places_from places_to n a) where
   pub from_fits : Fits w64 (32 * from)
   from_fits = ⊎_elim (λ w. fits_32 (omega arith)) (λ w. fits_32 (omega arith)) h.rows
 
   pub to_fits : Fits w64 (32 * to)
   to_fits = ⊎_elim (λ w. fits_32 (omega arith)) (λ w. fits_32 (omega arith)) h.rows
 
-  pub places_from_fits : Fits w64 (32 * placesFrom)
+  pub places_from_fits : Fits w64 (32 * places_from)
   places_from_fits = ⊎_elim (λ w. fits_32 (omega arith)) (λ w. fits_32 (omega arith)) h.places
 
-  pub places_to_fits : Fits w64 (32 * placesTo)
+  pub places_to_fits : Fits w64 (32 * places_to)
   places_to_fits = ⊎_elim (λ w. fits_32 (omega arith)) (λ w. fits_32 (omega arith)) h.places
 
   pub copies_rows : {k size : ℕ} → k ≤ n → size ≡ 2048 → Copies from to k size
@@ -61,7 +61,7 @@ module _ {from to placesFrom placesTo n a : ℕ} (h : Halves from to placesFrom 
       (λ w. record { source = omega arith; target = omega arith; ahead = λ l. omega arith })
       h.rows
 
-  pub copies_accounts : {k size : ℕ} → k ≤ 32 * a → size ≡ 16384 → Copies (32 * placesFrom) (32 * placesTo) k size
+  pub copies_accounts : {k size : ℕ} → k ≤ 32 * a → size ≡ 16384 → Copies (32 * places_from) (32 * places_to) k size
   copies_accounts few e =
       ⊎_elim
       (λ w. record { source = omega arith; target = omega arith; ahead = λ l. omega arith })

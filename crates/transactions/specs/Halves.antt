@@ -4,11 +4,11 @@ use Rattle.message.specs.declared.Code.{Code}
 use Rattle.message.specs.declared.Code.TheVariants.{Done, NoTransaction}
 
 -- two halves that begin at these rows and places, neither of which reaches into the other
-pub record Halves (from to placesFrom placesTo n a : ℕ) : Type 0 where
+pub record Halves (from to places_from places_to n a : ℕ) : Type 0 where
   pub messages : n ≤ 1024
   pub accounts : a ≤ 256
   pub rows : ((from ≡ 0) × (to ≡ 1024)) ⊎ ((from ≡ 1024) × (to ≡ 0))
-  pub places : ((placesFrom ≡ 0) × (placesTo ≡ 256)) ⊎ ((placesFrom ≡ 256) × (placesTo ≡ 0))
+  pub places : ((places_from ≡ 0) × (places_to ≡ 256)) ⊎ ((places_from ≡ 256) × (places_to ≡ 0))
 
 -- a commit touches the numbers alone
 pub record Commits (r : Code) (ns₀ ns : List ℕ) : Type 0 where

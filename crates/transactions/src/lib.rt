@@ -1,5 +1,7 @@
 // A transaction: what is held is copied into the backup room, copied back, or forgotten there. Begin and rollback each pass the rows that are
 // held, and no others.
+#![tactic(auto)]
+
 ghost use Rattle.std.specs.Prelude.{◌≡◌, [], ◌≤◌, length};
 ghost use Rattle.queues.specs.Cols.{cols};
 ghost use Rattle.queues.specs.Good.{Long, Good};

@@ -1,5 +1,7 @@
 // A move of an account to a slot, on lent columns of numbers and the record of the slot: its messages go from its queue to the slot, and it
 // enters the group.
+#![tactic(auto)]
+
 ghost use Rattle.std.specs.Prelude.{◌≡◌, ◌+◌, ◌<◌};
 ghost use Rattle.moves.specs.Moves.{alone, store, move_store};
 ghost use Rattle.moves.specs.Good.{GoodStore};

@@ -1,4 +1,6 @@
 // A visit of the second pass to a slot, on lent columns of numbers and the record of the slot: the slot's own accounts, and then the account order.
+#![tactic(auto)]
+
 ghost use Rattle.std.specs.Prelude.{◌≡◌, ◌<◌};
 ghost use Rattle.moves.specs.Moves.{alone};
 ghost use Rattle.meaning.specs.Meaning.{columns};

@@ -1,5 +1,7 @@
 // The walks through the account order for a slot, on lent columns of numbers and the record of the slot: until it holds a message, and until
 // it is full.
+#![tactic(auto)]
+
 ghost use Rattle.std.specs.Prelude.{◌≡◌, ◌-◌, ◌<◌};
 ghost use Rattle.moves.specs.Moves.{alone};
 ghost use Rattle.meaning.specs.Meaning.{columns};

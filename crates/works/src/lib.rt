@@ -1,4 +1,6 @@
 // The columns on numbers of one fill as one value: what the passes run on, and what they leave.
+#![tactic(auto)]
+
 use moves::Tally;
 use numbers::SlotId;
 

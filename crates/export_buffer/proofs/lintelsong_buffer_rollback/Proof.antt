@@ -39,7 +39,7 @@ use denote.Triple.Call.{calls_at}
 use denote.Triple.Clauses.{ensured, lasts}
 use denote.Triple.Table.{entered, cited}
 use denote.Triple.Walked.{says, needs, Stays, stay_ref, walk_of, Goes-ref, Walks, ends_at, walked, walk_Meets}
-use Rattle.rules.specs.Calls.{rollback as rollbackBy}
+use Rattle.rules.specs.Calls.{rollback as rollback_by}
 use Rattle.message.specs.Real.{Real}
 use Rattle.queues.specs.Cols.{cols}
 use Rattle.queues.specs.Meant.{meant}
@@ -137,7 +137,7 @@ module _ {M : Type 1} {𝓤 : Ura M} (𝓛 : Logic 𝓤) (at_mem : Memory → SP
 
   -- what the core ensures of its answer and of what it was lent
   abbrev Did : ℕ → List ℕ → List ℕ → List ℕ → List ℕ → List ℕ → List ℕ → List ℕ → List ℕ → Type 0
-  Did r b·owner b·kind b·form b·time b·address b·hash b·accounts b·numbers = Gives (rollbackBy Real (meant (cols_of b))) (rollback_c (cols_of b)) r (cols b·owner b·kind b·form b·time b·address b·hash b·accounts b·numbers)
+  Did r b·owner b·kind b·form b·time b·address b·hash b·accounts b·numbers = Gives (rollback_by Real (meant (cols_of b))) (rollback_c (cols_of b)) r (cols b·owner b·kind b·form b·time b·address b·hash b·accounts b·numbers)
 
   abbrev to_core : NamesB → (Core 𝓛 at_mem run).Ghost
   to_core n-b = ((((n-b.ν0 ∷ []), ((n-b.ν1 ∷ []), ((n-b.ν2 ∷ []), ((n-b.ν3 ∷ []), ((n-b.ν4 ∷ []), ((n-b.ν5 ∷ []), ((n-b.ν6 ∷ []), ((n-b.ν7 ∷ []), tt)))))))), (full_share, (full_share, (full_share, (full_share, (full_share, (full_share, (full_share, (full_share, tt)))))))), tt, (x0 n-b.δ0, (x1 n-b.δ1, (x2 n-b.δ2, (x3 n-b.δ3, (x4 n-b.δ4, (x5 n-b.δ5, (x6 n-b.δ6, (x7 n-b.δ7, tt)))))))), (vptr b-b (o-b + 0) ∷ [], (vptr b-b (o-b + 4096) ∷ [], (vptr b-b (o-b + 6144) ∷ [], (vptr b-b (o-b + 8192) ∷ [], (vptr b-b (o-b + 24576) ∷ [], (vptr b-b (o-b + 90112) ∷ [], (vptr b-b (o-b + 155648) ∷ [], (vptr b-b (o-b + 172032) ∷ [], tt))))))))), tt)

@@ -46,7 +46,7 @@ use lib.ListN.{length}
 use Rattle.queues.specs.Cols.{cols}
 use Rattle.slots.specs.Table.{table}
 use Rattle.fill_rules.specs.Fills.{call_of, keys, left}
-use Rattle.fill_answer.specs.Answers.{filterBy}
+use Rattle.fill_answer.specs.Answers.{filter_by}
 use Rattle.fill_cores.specs.Lent.{FillsBy}
 use Rattle.export_fill.specs.Held.{cols_of, table_of, GoodBuffer, GoodGroup, GoodSet}
 use Rattle.export_fill.specs.declared.Buffer.{Buffer}
@@ -242,7 +242,7 @@ module _ {M : Type 1} {𝓤 : Ura M} (𝓛 : Logic 𝓤) (at_mem : Memory → SP
 
   -- what the core ensures of its answer and of what it was lent
   abbrev Did : ℕ → List ℕ → List ℕ → List ℕ → List ℕ → List ℕ → List ℕ → List ℕ → List ℕ → List ℕ → List ℕ → List ℕ → List ℕ → List ℕ → List ℕ → List ℕ → List ℕ → List ℕ → List ℕ → List ℕ → List ℕ → List ℕ → List ℕ → ℕ → List ℕ → List ℕ → List ℕ → Type 0
-  Did r b·owner b·kind b·form b·time b·address b·hash b·accounts b·numbers g·number g·ints g·exts g·accounts g·home g·owner g·kind g·form g·time g·address g·hash g·buckets g·numbers s·accounts s·held lts·last hashes·last out·last = FillsBy (call_of (cols_of b) (table_of g) s.accounts s.held slots height (filterBy filtered below) names verdicts costs cost) (keys lts hashes) r out·last (left (cols b·owner b·kind b·form b·time b·address b·hash b·accounts b·numbers) (table g·number g·ints g·exts g·accounts g·home g·owner g·kind g·form g·time g·address g·hash g·buckets g·numbers) s·accounts s·held (keys lts·last hashes·last))
+  Did r b·owner b·kind b·form b·time b·address b·hash b·accounts b·numbers g·number g·ints g·exts g·accounts g·home g·owner g·kind g·form g·time g·address g·hash g·buckets g·numbers s·accounts s·held lts·last hashes·last out·last = FillsBy (call_of (cols_of b) (table_of g) s.accounts s.held slots height (filter_by filtered below) names verdicts costs cost) (keys lts hashes) r out·last (left (cols b·owner b·kind b·form b·time b·address b·hash b·accounts b·numbers) (table g·number g·ints g·exts g·accounts g·home g·owner g·kind g·form g·time g·address g·hash g·buckets g·numbers) s·accounts s·held (keys lts·last hashes·last))
 
   abbrev to_core : NamesB → NamesG → NamesS → (Core 𝓛 at_mem run).Ghost
   to_core n-b n-g n-s = ((((n-b.ν0 ∷ []), ((n-b.ν1 ∷ []), ((n-b.ν2 ∷ []), ((n-b.ν3 ∷ []), ((n-b.ν4 ∷ []), ((n-b.ν5 ∷ []), ((n-b.ν6 ∷ []), ((n-b.ν7 ∷ []), ((n-g.ν8 ∷ []), ((n-g.ν9 ∷ []), ((n-g.ν10 ∷ []), ((n-g.ν11 ∷ []), ((n-g.ν12 ∷ []), ((n-g.ν13 ∷ []), ((n-g.ν14 ∷ []), ((n-g.ν15 ∷ []), ((n-g.ν16 ∷ []), ((n-g.ν17 ∷ []), ((n-g.ν18 ∷ []), ((n-g.ν19 ∷ []), ((n-g.ν20 ∷ []), ((n-s.ν21 ∷ []), ((n-s.ν22 ∷ []), (κ-names, (κ-verdicts, (κ-costs, (κ-lts, (κ-hashes, (κ-out, tt))))))))))))))))))))))))))))), (full_share, (full_share, (full_share, (full_share, (full_share, (full_share, (full_share, (full_share, (full_share, (full_share, (full_share, (full_share, (full_share, (full_share, (full_share, (full_share, (full_share, (full_share, (full_share, (full_share, (full_share, (full_share, (full_share, (q-names, (q-verdicts, (q-costs, (q-lts, (q-hashes, (q-out, tt))))))))))))))))))))))))))))), tt, (x0 n-b.δ0, (x1 n-b.δ1, (x2 n-b.δ2, (x3 n-b.δ3, (x4 n-b.δ4, (x5 n-b.δ5, (x6 n-b.δ6, (x7 n-b.δ7, (x8 n-g.δ8, (x9 n-g.δ9, (x10 n-g.δ10, (x11 n-g.δ11, (x12 n-g.δ12, (x13 n-g.δ13, (x14 n-g.δ14, (x15 n-g.δ15, (x16 n-g.δ16, (x17 n-g.δ17, (x18 n-g.δ18, (x19 n-g.δ19, (x20 n-g.δ20, (x21 n-s.δ21, (x22 n-s.δ22, (record { ref_ptr = (b-names, o-names); ghost_name = γ-names; now = names }, (record { ref_ptr = (b-verdicts, o-verdicts); ghost_name = γ-verdicts; now = verdicts }, (record { ref_ptr = (b-costs, o-costs); ghost_name = γ-costs; now = costs }, (record { ref_ptr = (b-lts, o-lts); ghost_name = γ-lts; now = lts }, (record { ref_ptr = (b-hashes, o-hashes); ghost_name = γ-hashes; now = hashes }, (record { ref_ptr = (b-out, o-out); ghost_name = γ-out; now = out }, (slots, (height, (cost, (filtered, (below, tt)))))))))))))))))))))))))))))))))), (vptr b-b (o-b + 0) ∷ [], (vptr b-b (o-b + 4096) ∷ [], (vptr b-b (o-b + 6144) ∷ [], (vptr b-b (o-b + 8192) ∷ [], (vptr b-b (o-b + 24576) ∷ [], (vptr b-b (o-b + 90112) ∷ [], (vptr b-b (o-b + 155648) ∷ [], (vptr b-b (o-b + 172032) ∷ [], (vptr b-g (o-g + 0) ∷ [], (vptr b-g (o-g + 128) ∷ [], (vptr b-g (o-g + 192) ∷ [], (vptr b-g (o-g + 256) ∷ [], (vptr b-g (o-g + 33024) ∷ [], (vptr b-g (o-g + 34048) ∷ [], (vptr b-g (o-g + 36096) ∷ [], (vptr b-g (o-g + 37120) ∷ [], (vptr b-g (o-g + 38144) ∷ [], (vptr b-g (o-g + 46336) ∷ [], (vptr b-g (o-g + 79104) ∷ [], (vptr b-g (o-g + 111872) ∷ [], (vptr b-g (o-g + 116224) ∷ [], (vptr b_s (o-s + 0) ∷ [], (vptr b_s (o-s + 16384) ∷ [], (slice_val (b-names, o-names) (length names) ∷ [], (slice_val (b-verdicts, o-verdicts) (length verdicts) ∷ [], (slice_val (b-costs, o-costs) (length costs) ∷ [], (slice_val (b-lts, o-lts) (length lts) ∷ [], (slice_val (b-hashes, o-hashes) (length hashes) ∷ [], (vptr b-out o-out ∷ [], (vint w64 slots ∷ [], (vint w64 height ∷ [], (vint w64 cost ∷ [], (vint w8 filtered ∷ [], (vint w64 below ∷ [], tt))))))))))))))))))))))))))))))))))), tt)

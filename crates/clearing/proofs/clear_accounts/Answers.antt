@@ -1,0 +1,8 @@
+-- `clearing::clear_accounts` meets its contract: past the cells in use a column is clear (proofs/Cleared.antt). Assumes nothing.
+use Rattle.clearing.proofs.Cleared.{cleared}
+use Rattle.clearing.proofs.clear_accounts.Goals as goal
+
+pub returns : goal.returns
+returns c =
+    let p = c.requires in
+    (cleared p.0 _ c.clear_bytes.ensures, cleared p.1 _ c.clear_bytes-2.ensures)

@@ -1,0 +1,11 @@
+-- What the loop of `collect_bytes` keeps, and what falls with each turn. See Answers.antt.
+use Prim.Native.Nat.{◌-◌}
+use lib.ListN.{get_or}
+use Rattle.settle.proofs.Copying.{Cells}
+use Rattle.collecting.proofs.collect_bytes.Given as goal
+
+abbrev pub invariant-loop-k : goal.invariant-loop-k
+invariant-loop-k l = Cells (λ j. get_or l.from (get_or l.rows j 0) 0) l.first l.n l.at l.initial.to l.to l.k
+
+abbrev pub decreases-loop-k : goal.decreases-loop-k
+decreases-loop-k l = l.n - l.k

@@ -1,0 +1,25 @@
+-- `compacting::move_owners` meets its contract: the owners are passed from the front, each place written once (`Passing` of owners).
+-- Assumes nothing.
+use mathlib.Core.Path.{sym, ◌∙◌}
+use Prim.Native.Nat.{◌<◌, ◌-◌}
+use native.Mathlib.Omega.{arith}
+use lib.ListN.{get_or}
+use borrow.Author.Tests.{ltb-true}
+use Rattle.queues.specs.Compact.{moved_c}
+use Rattle.owners.proofs.Passing.{pass_start, pass_end}
+use Rattle.compacting.proofs.move_owners.Goals as goal
+
+pub loop-i-init : goal.loop-i-init
+loop-i-init c = pass_start _ _ _
+
+pub bounds-seats-wide16 : goal.bounds-seats-wide16
+bounds-seats-wide16 c =
+    let h : get_or c.loop-i.owner c.loop-i.i 0 < 256 = ltb-true _ _ (sym c.is_place.ensures ∙ c.if-is_place.true) in
+    omega (arith, h, c.wide16.ensures.0)
+
+pub loop-i-preserved : goal.loop-i-preserved
+loop-i-preserved c = ?
+
+pub returns : goal.returns
+unfolding moved_c
+returns c = pass_end c.loop-i.invariant c.loop-i-test.false

@@ -1,0 +1,53 @@
+-- `joins::join::decide` meets its contract: each way out rewrites by the tests that led there. Assumes nothing.
+use mathlib.Core.Path.{◌≡◌, sym, ◌∙◌}
+use mathlib.Core.Bool.{true, false}
+use mathlib.Core.List.{List}
+use Prim.Native.Nat.{ℕ, ◌+◌, ◌≤◌}
+use native.Mathlib.Omega.{arith}
+use lib.Dec.{eqb, leb, ltb}
+use lib.ListN.{get_or}
+use Rattle.numbers.proofs.Bytes.{by_bool}
+use Rattle.slots.specs.Join.{shared_t, next_by, join_code_by}
+use Rattle.joins.proofs.join.decide.Goals as goal
+
+-- a first new number fits
+next_le : (ns : List ℕ) → get_or ns 6 0 ≤ 65535 → next_by ns ≤ 65536
+unfolding next_by
+next_le ns h = by_bool (eqb (get_or ns 7 0) 0) (λ t. rw t (omega arith)) (λ f. rw f (omega arith))
+
+pub overflow_add-used : goal.overflow_add-used
+overflow_add-used c =
+    omega (arith, c.next_number.ensures, next_le c.args.left.now c.requires.rooms.last, c.requires.rooms_2.slots)
+
+pub returns-then-many : goal.returns-then-many
+unfolding join_code_by
+returns-then-many c =
+    let a = c.args in
+    let many : ltb (get_or a.left.now 0 0) (get_or a.left.now 1 0 + get_or a.right.now 1 0) ≡ true = c.if-many.true in
+    simp many
+
+pub returns-then-twice : goal.returns-then-twice
+unfolding join_code_by
+returns-then-twice c =
+    let a = c.args in
+    let many : ltb (get_or a.left.now 0 0) (get_or a.left.now 1 0 + get_or a.right.now 1 0) ≡ false = c.if-many.false in
+    let twice : shared_t (get_or a.left.now 2 0) a.accounts.now (get_or a.right.now 2 0) a.others.now ≡ true = sym c.shared-twice.ensures ∙ c.if-twice.true in
+    simp (many, twice)
+
+pub returns-then-used : goal.returns-then-used
+unfolding join_code_by
+returns-then-used c =
+    let a = c.args in
+    let many : ltb (get_or a.left.now 0 0) (get_or a.left.now 1 0 + get_or a.right.now 1 0) ≡ false = c.if-many.false in
+    let twice : shared_t (get_or a.left.now 2 0) a.accounts.now (get_or a.right.now 2 0) a.others.now ≡ false = sym c.shared-twice.ensures ∙ c.if-twice.false in
+    let used : leb 65535 (next_by a.left.now + get_or a.right.now 1 0) ≡ true = rw c.next_number.ensures at c.if-used.true in
+    simp (many, twice, used)
+
+pub returns : goal.returns
+unfolding join_code_by
+returns c =
+    let a = c.args in
+    let many : ltb (get_or a.left.now 0 0) (get_or a.left.now 1 0 + get_or a.right.now 1 0) ≡ false = c.if-many.false in
+    let twice : shared_t (get_or a.left.now 2 0) a.accounts.now (get_or a.right.now 2 0) a.others.now ≡ false = sym c.shared-twice.ensures ∙ c.if-twice.false in
+    let used : leb 65535 (next_by a.left.now + get_or a.right.now 1 0) ≡ false = rw c.next_number.ensures at c.if-used.false in
+    simp (many, twice, used)

@@ -1,0 +1,9 @@
+-- What the loop of `join::shared` keeps, and what falls with each turn. See Answers.antt.
+use Rattle.joins.proofs.Shared.{Seeking}
+use Rattle.joins.proofs.join.shared.Given as goal
+
+abbrev pub invariant-loop-k : goal.invariant-loop-k
+invariant-loop-k l = Seeking l.m l.left l.n l.right l.k
+
+abbrev pub decreases-loop-k : goal.decreases-loop-k
+decreases-loop-k l = l.k

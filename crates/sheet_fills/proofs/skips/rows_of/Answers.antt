@@ -1,0 +1,21 @@
+-- `sheet_fills::skips::rows_of` meets its contract: the three columns hold the rows (proofs/Laying.antt). Assumes nothing.
+use mathlib.Core.Path.{◌∙◌}
+use Prim.Native.Nat.{ℕ}
+use lib.ListN.{length-replicate}
+use Rattle.sheet_fills.proofs.Laying.{rows_same}
+use Rattle.sheet_fills.proofs.skips.rows_of.Goals as goal
+
+pub returns : goal.returns
+returns c =
+    let n = c.put_names in
+    let v = c.put_verdicts in
+    let k = c.put_costs in
+    record {
+      good = record {
+        few = c.requires.1;
+        names_long = n.auto.1.1.0 ∙ length-replicate {A = ℕ} 2048 0;
+        verdicts_long = v.auto.1.1.0 ∙ length-replicate {A = ℕ} 64 0;
+        costs_long = k.auto.1.1.0 ∙ length-replicate {A = ℕ} 64 0;
+      };
+      same = rows_same c.args.cells.now (record { count = c.args.n; names = n.new.1.1.0; verdicts = v.new.1.1.0; costs = k.new.1.1.0 }) n.ensures v.ensures k.ensures;
+    }

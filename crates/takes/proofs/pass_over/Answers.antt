@@ -1,0 +1,22 @@
+-- `takes::pass_over` meets its contract: what is passed, as it is, with what the rest of the scan makes of the rest, stays what the whole
+-- scan makes of the owners at entry; the rows that the chain leaves out are not the party's. Assumes nothing.
+use Prim.Native.Nat.{◌-◌}
+use native.Mathlib.Omega.{arith}
+use Rattle.moves.proofs.Chains.{above, pass_start, pass_end}
+use Rattle.takes.proofs.pass_over.Goals as goal
+
+pub loop-i-init : goal.loop-i-init
+loop-i-init c =
+    pass_start c.requires.rows_bound.0 c.requires.linked.1 c.requires.rows_bound.1 c.requires.linked.0 c.first_of-i.ensures
+
+pub loop-i-smaller : goal.loop-i-smaller
+loop-i-smaller c =
+    let here = c.loop-i-test.true in
+    omega (arith, above c.loop-i.invariant.along here c.next_of-i.ensures, here)
+
+pub loop-i-preserved : goal.loop-i-preserved
+loop-i-preserved c = ?
+
+pub returns : goal.returns
+returns c =
+    pass_end c.requires.rows_bound.0 c.requires.linked.1 c.loop-i.invariant (omega (arith, c.loop-i-test.false))

@@ -1,0 +1,13 @@
+-- What the loop of `cut::until` keeps, and what falls with each turn. See Answers.antt.
+use mathlib.Core.Bool.{not}
+use Prim.Native.Nat.{◌-◌}
+use lib.Dec.{eqb}
+use lib.ListN.{length}
+use Rattle.words.proofs.Passing.{Passing}
+use Rattle.words.proofs.cut.until.Given as goal
+
+abbrev pub invariant-loop-i : goal.invariant-loop-i
+invariant-loop-i l = Passing (λ x. not (eqb x l.b)) l.from l.s l.i
+
+abbrev pub decreases-loop-i : goal.decreases-loop-i
+decreases-loop-i l = length l.s - l.i
