@@ -110,7 +110,8 @@ module _ (W : World) (L : Lawful W) (A : Args W) where
     unfolding serve
     R_serve line [] s = S.stay s
     R_serve [] (a ∷ rest) s = S.stay s
-    R_serve (n ∷ line) (a ∷ rest) s = S.and_then s (meet W A n a s) _ (R_meet n a s) (R_serve _ rest (meet W A n a s))
+    R_serve (n ∷ line) (a ∷ rest) s = S.and_then s (meet W A n a s) _ (R_meet n a s) (R_serve
+        (cond (moves W A a s) (cond (is_full W A n (meet W A n a s)) line (line ++ (n ∷ []))) (n ∷ line)) rest (meet W A n a s))
 
     pub R_own : (n : ℕ) (more : List W.Acc) (s : State W) → R s (own W A n more s)
     unfolding own

@@ -79,9 +79,9 @@ module _ (W : World) (L : Lawful W) where
       collected = x.collected i;
       ops = x.ops i;
       dropped = x.dropped i;
-      keys = x.keysAfter i;
-      store = record { M = x.roomM i; A = x.roomA i; now = now i; kept = x.kept i };
-      target = record { S = x.roomS i; now = group i };
+      keys = x.keys_after i;
+      store = record { M = x.room_m i; A = x.room_a i; now = now i; kept = x.kept i };
+      target = record { S = x.room_s i; now = group i };
       skipped = x.set i;
     }
       where

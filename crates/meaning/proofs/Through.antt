@@ -13,7 +13,7 @@ use Rattle.rules.specs.World.{Each}
 use Rattle.moves.specs.declared.Fixed.{Fixed}
 use Rattle.moves.specs.Moves.{with_tally, costs}
 use Rattle.meaning.specs.Meaning.{Columns, columns_of, with_owner, check_c, pass_c, move_c}
-use Rattle.meaning.specs.Walks.{skip_c, free_c, moves_at, held_c, full_c, WalkC, walk, try_c, meet_c, seek_c, reach_c, own_c, visit_c}
+use Rattle.meaning.specs.Walks.{skip_c, free_c, moves_at, moves_c, held_c, full_c, WalkC, walk, try_c, meet_c, seek_c, reach_c, own_c, visit_c}
 use Rattle.meaning.specs.Passes.{PassedC, passed_c, position_from, sweep_owners, left_c, serve_c, first_c, second_c, swept_c, rest_c, end_c, run_c}
 use Rattle.meaning.proofs.Kept.{try_more}
 
@@ -95,7 +95,7 @@ module _ {class cost : List ℕ} {f : Fixed} {top : ℕ} {P Q : Columns → Type
   serve_through (j ∷ line) (suc r) i a b m h =
       let t = meet_c class cost f j i m in
       let back = each_cond top (full_c f.height (held_c j t)) line (line ++ (j ∷ [])) a.1 (each_snoc top line j a.1 a.0) in
-      serve_through _ r (i + 1) (each_cond top (moves_at m.store.home m.mark i) _ (j ∷ line) back a) (λ x l. omega (arith, b (suc x) (omega arith))) t
+      serve_through (cond (moves_c i m) (cond (full_c f.height (held_c j t)) line (line ++ (j ∷ []))) (j ∷ line)) r (i + 1) (each_cond top (moves_at m.store.home m.mark i) _ (j ∷ line) back a) (λ x l. omega (arith, b (suc x) (omega arith))) t
       (meet_through j i (omega (arith, b 0 (omega arith))) a.0 m h)
 
   first_through : (n : ℕ) (line numbers : List ℕ) (slots last i : ℕ) (m : Columns) → Each (λ x. x < top) line → slots + n ≤ top → P m

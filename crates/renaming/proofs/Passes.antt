@@ -166,7 +166,7 @@ module _ {W U : World} (f : Renaming W U) (F : Faithful W U f) (A : Args W) wher
   serve_on line [] s = refl
   serve_on [] (a ∷ rest) s = refl
   serve_on (n ∷ line) (a ∷ rest) s = (λ i. serve U (on_args f A) (cond (moves_on a s i) (cond (full i) line (line ++ (n ∷ []))) (n ∷ line)) (map f.acc rest) (meet_on n a s i))
-      ∙ serve_on _ rest (meet W A n a s)
+      ∙ serve_on (cond (moves W A a s) (cond (is_full W A n (meet W A n a s)) line (line ++ (n ∷ []))) (n ∷ line)) rest (meet W A n a s)
     where
       full : is_full U (on_args f A) n (meet U (on_args f A) n (f.acc a) (on_state f s)) ≡ is_full W A n (meet W A n a s)
       full = ap (is_full U (on_args f A) n) (meet_on n a s) ∙ full_on n (meet W A n a s)

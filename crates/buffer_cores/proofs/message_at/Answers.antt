@@ -1,6 +1,6 @@
 -- `message_at` meets its contract: what the read gives is told. Assumes nothing.
 use mathlib.Core.Path.{ap, ◌∙◌}
-use mathlib.Core.List.{◌∷◌}
+use mathlib.Core.List.{[], ◌∷◌}
 use Rattle.message.specs.declared.SeenMessage.{SeenMessage}
 use Rattle.records.specs.Records.{form_byte}
 use Rattle.export_parts.specs.Parts.{bit}

@@ -1,5 +1,6 @@
 -- `buffer_end::settle_buffer` meets its contract: the packing by the seats, the numbers put right, and the index made anew
 -- (proofs/Settling.antt). Assumes nothing.
+use mathlib.Core.List.{[]}
 use mathlib.Core.Path.{sym, ap, subst, ◌∙◌}
 use Prim.Native.Nat.{ℕ, ◌≤◌}
 use lib.ListN.{length}

@@ -1,5 +1,5 @@
 -- `tell_slot` meets its contract: the parts of the slot one by one. Assumes nothing.
-use mathlib.Core.List.{◌∷◌}
+use mathlib.Core.List.{[], ◌∷◌}
 use Rattle.group_parts.proofs.tell_slot.Goals as goal
 
 pub returns : goal.returns

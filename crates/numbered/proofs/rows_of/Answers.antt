@@ -7,7 +7,7 @@ use Rattle.numbered.proofs.rows_of.Goals as goal
 
 pub link-requires : goal.link-requires
 link-requires c =
-    let p = c.requires in record { n_in_bounds = (omega (arith, p.owner_long, p.n-fits), p.n-fits, plan_long _ _ _ _ p.n-fits _ c.classify.ensures); by_index = p.owned }
+    let p = c.requires in record { n_in_bounds = (omega (arith, p.owner_long, p.n_fits), p.n_fits, plan_long _ _ _ _ p.n_fits _ c.classify.ensures); by_index = p.owned }
 
 pub returns : goal.returns
 returns c =

@@ -1,4 +1,5 @@
 -- What the loop of `first` keeps, and what falls with each turn. See Answers.antt.
+use mathlib.Core.List.{[]}
 use Rattle.slot_rows.specs.Rows.{ints_of, exts_of}
 use Rattle.meaning.specs.Meaning.{columns}
 use Rattle.meaning.specs.Passes.{first_c}

@@ -1,5 +1,6 @@
 -- `removal::remove` meets its contract: well-formed columns meet what each call requires, and the calls' contracts together are the answer
 -- (proofs/Removing.antt). Assumes nothing.
+use mathlib.Core.List.{[]}
 use mathlib.Core.Path.{refl}
 use Rattle.queues.specs.Cols.{Cols, cols, with_numbers}
 use Rattle.leaving.proofs.Staying.{few, seated, owned, length_seated, indexable}

@@ -1,12 +1,15 @@
 -- `takes::take_front` meets its contract: the invariant, that the part passed with what the model takes of the rest is what it takes of the
 -- whole, is a record of the file Takes, and each branch of a turn is one of its lemmas. Assumes nothing.
+use lib.ListN.{length}
+use native.Mathlib.Nat.{add-zero}
 use Prim.Native.Nat.{◌-◌, ◌<◌}
 use mathlib.Core.Path.{sym, ◌∙◌}
-use borrow.Author.Tests.{eq-eqb}
+use borrow.Author.Tests.{eq-eqb, ne_eqb}
 use native.Mathlib.Omega.{arith}
-use Rattle.takes.proofs.Takes.{start, finish_full, finish_end, room_left, jump}
-use Rattle.moves.proofs.Chains.{along_start, above, clear_start}
+use Rattle.takes.proofs.Takes.{start, finish_full, finish_end, room_left, jump, skip, pop, choose, go_on}
+use Rattle.moves.proofs.Chains.{along_start, above, clear_start, along_mark}
 use Rattle.takes.proofs.take_front.Goals as goal
+use Rattle.takes.proofs.take_front.Goals.{else-wide16-place, then-wide16-place+else-k-eq2+else-k-eq0, then-wide16-place+else-k-eq2+then-k-eq0, then-wide16-place+then-k-eq2}
 
 pub loop-i-init : goal.loop-i-init
 loop-i-init c =
@@ -33,7 +36,28 @@ loop-i-smaller c =
     omega (arith, above c.loop-i.invariant.1 here c.next_of-i.ensures, here)
 
 pub loop-i-preserved : goal.loop-i-preserved
-loop-i-preserved c = ?
+loop-i-preserved c =
+    let v = c.loop-i.invariant.0 in
+    let a = c.loop-i.invariant.1 in
+    let fit = c.requires.rows_bound.0 in
+    let b = c.requires.rows_bound.1 in
+    let small : c.args.place < 1280 = omega (arith, b) in
+    let here = c.loop-i-test.true in
+    let more : c.loop-i.got < c.args.wanted = omega (arith, c.if-wanted-got.false) in
+    let l : c.loop-i.i < length c.loop-i.owner = omega (arith, v.long, here, fit) in
+    let f = sym c.wide16.ensures.0 in
+    let e = c.next_of-i.ensures in
+    elim c.if-wide16-place.branch [
+      | then-wide16-place+then-k-eq2 w ↦ rw (w.owner-is, w.taken-is, w.got-is, w.ints-is, w.pops-is)
+          (go_on (pop v fit here more (eq-eqb _ _ (f ∙ w.if-wide16-place.true)) (eq-eqb _ _ w.if-k-eq2.true)) (along_mark a _ l (omega arith)) here fit small e)
+      | then-wide16-place+else-k-eq2+then-k-eq0 w ↦ rw (w.owner-is, w.taken-is, w.got-is, w.ints-is, w.pops-is)
+          (go_on (choose v fit here more b (eq-eqb _ _ (f ∙ w.if-wide16-place.true)) (ne_eqb _ _ w.if-k-eq2.false) _ (rw (eq-eqb _ _ w.if-k-eq0.true))
+          (omega (arith, v.fewer))) (along_mark a _ l (omega arith)) here fit small e)
+      | then-wide16-place+else-k-eq2+else-k-eq0 w ↦ rw (w.owner-is, w.taken-is, w.got-is, w.ints-is, w.pops-is)
+          (go_on (choose v fit here more b (eq-eqb _ _ (f ∙ w.if-wide16-place.true)) (ne_eqb _ _ w.if-k-eq2.false) _
+          (rw (ne_eqb _ _ w.if-k-eq0.false, add-zero)) (omega (arith, v.fewer))) (along_mark a _ l (omega arith)) here fit small e)
+      | else-wide16-place w ↦ rw (w.owner-is, w.taken-is, w.got-is, w.ints-is, w.pops-is) (go_on (skip v fit here more (ne_eqb _ _ (λ z. w.if-wide16-place.false (sym f ∙ z)))) a here fit small e)
+    ]
 
 pub returns : goal.returns
 returns c =

@@ -1,11 +1,12 @@
 -- `takes::wanted` meets its contract: what is counted, with the count of the rest, is the length of the queue; the count ends where there is
 -- no more room. Assumes nothing.
-use mathlib.Core.Path.{refl}
-use Prim.Native.Nat.{◌-◌}
+use mathlib.Core.Path.{refl, sym, ◌∙◌}
+use Prim.Native.Nat.{◌-◌, ◌<◌}
 use native.Mathlib.Omega.{arith}
 use Rattle.moves.specs.Moves.{wanted_c}
-use Rattle.moves.proofs.Chains.{above, count_start, count_full, count_end}
+use Rattle.moves.proofs.Chains.{above, count_start, count_full, count_end, count_one, count_past}
 use Rattle.takes.proofs.wanted.Goals as goal
+use Rattle.takes.proofs.wanted.Goals.{else-wide16-place, then-wide16-place}
 
 pub returns-then-height-held : goal.returns-then-height-held
 unfolding wanted_c
@@ -25,7 +26,11 @@ loop-i-smaller c =
     omega (arith, above c.loop-i.invariant.along here c.next_of-i.ensures, here)
 
 pub loop-i-preserved : goal.loop-i-preserved
-loop-i-preserved c = ?
+loop-i-preserved c =
+    let here = c.loop-i-test.true in
+    let more : c.loop-i.count < c.args.height - c.args.held = omega (arith, c.if-room-count.false) in
+    let f = sym c.wide16.ensures.0 in
+    elim c.if-wide16-place.branch [ then-wide16-place w ↦ rw w.count-is (count_one (omega (arith, c.requires.rows_bound)) c.requires.linked.1 c.loop-i.invariant here more c.next_of-i.ensures (f ∙ w.if-wide16-place.true)) | else-wide16-place w ↦ rw w.count-is (count_past (omega (arith, c.requires.rows_bound)) c.requires.linked.1 c.loop-i.invariant here more c.next_of-i.ensures (λ e. w.if-wide16-place.false (sym f ∙ e))) ]
 
 pub returns : goal.returns
 returns c =

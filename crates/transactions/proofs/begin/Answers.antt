@@ -1,4 +1,5 @@
 -- `transactions::begin` meets its contract: a half holds no more than its room, so it can be copied down. Assumes nothing.
+use mathlib.Core.List.{[]}
 use mathlib.Core.Path.{◌≡◌, sym, ◌∙◌}
 use Rattle.message.specs.Answers.{number as number_of}
 use Rattle.transactions.proofs.Steps.{down, long_any, begin_refused, begin_done}

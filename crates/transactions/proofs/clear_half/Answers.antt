@@ -1,4 +1,5 @@
 -- `transactions::clear_half` meets its contract: the clearings of the columns together are `cleared_c`. Assumes nothing.
+use mathlib.Core.List.{[]}
 use Rattle.queues.specs.Transact.{cleared_c}
 use Rattle.transactions.proofs.clear_half.Goals as goal
 

@@ -1,5 +1,6 @@
 -- `transactions::copy_half` meets its contract: the halves lie apart, so each column's copy may go, and the copies together are `copied_c`.
 -- Assumes nothing.
+use mathlib.Core.List.{[]}
 use native.Mathlib.Omega.{arith}
 use Rattle.queues.specs.Transact.{copied_c}
 use Rattle.transactions.proofs.Steps.{from_fits, to_fits, places_from_fits, places_to_fits, copies_rows, copies_bytes, copies_accounts}

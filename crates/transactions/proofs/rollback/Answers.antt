@@ -1,5 +1,6 @@
 -- `transactions::rollback` meets its contract: while a transaction is open what is kept is well formed, so it can be copied back into the rows
 -- made fresh, and indexed. Assumes nothing.
+use mathlib.Core.List.{[]}
 use mathlib.Core.Path.{◌≡◌, sym, ◌∙◌}
 use Rattle.message.specs.Answers.{number as number_of}
 use Rattle.transactions.proofs.Steps.{held_few, up, long_any, long_again, rebuildable, rollback_refused, rollback_done}
