@@ -1,28 +1,19 @@
 -- `buckets::none_below` meets its contract: the buckets passed are empty, so what is left is looked at (proofs/Below.antt). Assumes nothing.
-use mathlib.Core.Path.{◌≡◌}
-use Prim.Native.Nat.{◌-◌}
 use native.Mathlib.Omega.{arith}
 use lib.Dec.{ltb}
-use lib.ListN.{length}
 use borrow.Author.Rules.{rules}
 use borrow.Author.Tests.{ltb-true, ltb-false}
 use Rattle.numbers.proofs.Bytes.{by_bool}
 use Rattle.buckets.proofs.Below.{pass_step, pass_found, pass_end, pass_all}
 use Rattle.buckets.proofs.none_below.Goals as goal
 
-size : (c : goal.Start) → length c.args.t1 ≡ 1088
-size c = search rules
-
-pub loop-c-init : goal.loop-c-init
-loop-c-init c = ?
-
 pub returns-then-buckets-c-lt-NONE : goal.returns-then-buckets-c-lt-NONE
 returns-then-buckets-c-lt-NONE c =
-    pass_found c.loop-c.invariant.0 (size c.before.before.before.before) (omega arith) (omega arith) c.if-buckets-c-lt-NONE.true
+    pass_found c.loop-c.invariant.0 (search rules) (omega arith) (omega arith) c.if-buckets-c-lt-NONE.true
 
 pub loop-c-preserved : goal.loop-c-preserved
 loop-c-preserved c =
-    (pass_step c.loop-c.invariant.0 (size c.before.before.before.before) (omega arith) (omega arith) c.if-buckets-c-lt-NONE.false, c.loop-c.invariant.1)
+    (pass_step c.loop-c.invariant.0 (search rules) (omega arith) (omega arith) c.if-buckets-c-lt-NONE.false, c.loop-c.invariant.1)
 
 pub returns : goal.returns
 returns c =
