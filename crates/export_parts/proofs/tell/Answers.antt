@@ -1,6 +1,6 @@
 -- `tell` meets its contract: the parts one by one. Assumes nothing.
 use mathlib.Core.Path.{refl, ◌∙◌}
-use mathlib.Core.List.{◌∷◌}
+use mathlib.Core.List.{[], ◌∷◌}
 use Rattle.export_parts.proofs.tell.Goals as goal
 
 pub returns : goal.returns
