@@ -1,3 +1,2 @@
--- What the proofs share: Answers (what a commit gives), BufferApart (a buffer in memory is its fields).
+-- What the proofs share: what a commit gives.
 pub mod Answers
-pub mod BufferApart

@@ -1,3 +1,2 @@
--- The columns of a table, and a row that is lent and comes back.
-pub mod Row
+-- The columns of a table.
 pub mod Tables

@@ -1,5 +1,4 @@
-// The table of slot records. A visit takes one record by value and hands it back; here it is written back into its place of a lent row. The
-// borrow checker does not cover a lent row of structs: `write`, which has one, and `write_table`, which lends one, are proved by hand.
+// The table of slot records. A visit takes one record by value and hands it back; here it is written back into its place of a lent row.
 #![tactic(auto)]
 
 ghost use Rattle.std.specs.Prelude.{◌≡◌, ◌<◌, length, set};
@@ -25,7 +24,7 @@ pub fn write(slots: &mut [Slot], at: usize, record: Slot)
     slots[at] = written(slots[at], record);
 }
 
-// The table by value: its row is lent to `write`. Whoever calls this needs no walk.
+// The table by value: its row is lent to `write`.
 pub fn write_table(table: [Slot; 64], at: usize, record: Slot) -> [Slot; 64]
     requires { at < 64 }
     ensures { result ≡ set table at «record» }

@@ -1,6 +1,5 @@
 -- `slot_rows::gather` meets its contract: the columns of the table are the columns lent, up to the place that the loop stands at.
 -- Assumes nothing.
-use Prim.Native.Nat.{◌-◌}
 use Rattle.slot_rows.proofs.Tables.{copied_start, copied_step, copied_end, ints_of_set, exts_of_set, ints_of_long, exts_of_long}
 use Rattle.slot_rows.proofs.gather.Goals as goal
 

@@ -1,7 +1,6 @@
 -- `slot_rows::spread` meets its contract: the columns lent are the columns of the table, up to the place that the loop stands at.
 -- Assumes nothing.
 use mathlib.Core.Path.{◌∙◌}
-use Prim.Native.Nat.{◌-◌}
 use Rattle.slot_rows.proofs.Tables.{copied_start, copied_step, copied_end, ints_of_at, exts_of_at, ints_of_long, exts_of_long}
 use Rattle.slot_rows.proofs.spread.Goals as goal
 
@@ -10,7 +9,7 @@ loop-i-init c = (copied_start _ c.requires.0, copied_start _ c.requires.1)
 
 pub loop-i-preserved : goal.loop-i-preserved
 loop-i-preserved c =
-    let t = c.args.t1 in
+    let t = c.args.table in
     let long = c.well_formed.0.1.0.1 in
     let l = c.loop-i-test.true in (
       rw (ints_of_at t c.loop-i.i) at (copied_step (ints_of_long t ∙ long) c.loop-i.invariant.0 l),
@@ -19,7 +18,7 @@ loop-i-preserved c =
 
 pub returns : goal.returns
 returns c =
-    let t = c.args.t1 in
+    let t = c.args.table in
     let long = c.well_formed.0.1.0.1 in (
       copied_end (ints_of_long t ∙ long) c.loop-i.invariant.0 c.loop-i-test.false,
       copied_end (exts_of_long t ∙ long) c.loop-i.invariant.1 c.loop-i-test.false,

@@ -1,2 +1,0 @@
--- What the proofs share: a group in memory is its fields.
-pub mod GroupApart

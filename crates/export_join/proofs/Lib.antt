@@ -1,2 +1,0 @@
--- What the proofs share: GroupApart (a group in memory is its fields).
-pub mod GroupApart

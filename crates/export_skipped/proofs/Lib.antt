@@ -1,2 +1,0 @@
--- What the proofs share: SkippedApart (a set in memory is its fields).
-pub mod SkippedApart
