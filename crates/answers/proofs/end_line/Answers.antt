@@ -1,5 +1,5 @@
 -- `answers::end_line` meets its contract: one byte is laid behind the line. Assumes nothing.
-use mathlib.Core.List.{◌∷◌}
+use mathlib.Core.List.{[], ◌∷◌}
 use native.Mathlib.Omega.{arith}
 use Rattle.display.proofs.Pieces.{puts_laid}
 use Rattle.answers.proofs.end_line.Goals as goal
