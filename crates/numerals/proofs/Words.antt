@@ -1,11 +1,10 @@
 -- A word read as a number that is not above its limit, and the number that ends at the first stop byte from an index on. Assumes nothing.
 use mathlib.Core.Path.{◌≡◌, refl, sym, ap, ◌∙◌}
-use mathlib.Core.Bool.{Bool, true, false, cond, ◌&&◌}
+use mathlib.Core.Bool.{Bool, true, false, ◌&&◌}
 use mathlib.Core.List.{List}
-use Prim.Native.Nat.{ℕ, ◌+◌, ◌-◌, ◌≤◌, ◌<◌, min}
+use Prim.Native.Nat.{ℕ, ◌+◌, ◌-◌, ◌≤◌, ◌<◌}
 use native.Mathlib.Nat.{min-eq_left}
 use native.Mathlib.Omega.{arith}
-use lib.Dec.{ltb, leb}
 use lib.ListN.{length, take, drop, length-drop}
 use lib.Seq.{drop-drop}
 use borrow.Author.Tests.{lt-ltb, le-ltb, lt-leb, le-leb}
@@ -14,7 +13,7 @@ use Rattle.words.specs.Cut.{before, Leads}
 use Rattle.words.specs.Digits.{is_number, value_of, number_of}
 use Rattle.words.specs.declared.decimal.Number.TheVariants.{Value, Nothing}
 use Rattle.numerals.specs.declared.Numeral.{Numeral}
-use Rattle.sheet_rules.specs.Sheet.{took, broken, plain, is_plain_number, number_at}
+use Rattle.sheet_rules.specs.Sheet.{took, plain, is_plain_number, number_at}
 use Rattle.numerals.specs.Steps.{Bounds, ReadsNumber}
 use Rattle.sheet_rules.proofs.Numerals.{number_parts}
 

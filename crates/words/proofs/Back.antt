@@ -1,16 +1,16 @@
 -- What is written reads back: the digits of a number as that number, and the name of a number too. Assumes nothing.
 use mathlib.Core.Path.{◌≡◌, refl, sym, ap, ◌∙◌}
-use mathlib.Core.Bool.{Bool, true, false}
-use mathlib.Core.List.{List, [], ◌∷◌, ◌++◌}
-use Prim.Native.Nat.{ℕ, zero, suc, ◌+◌, ◌-◌, ◌*◌, ◌/◌, ◌%◌, ◌^◌, ◌≤◌, ◌<◌}
-use native.Mathlib.Nat.{zero-mul, zero-add, pow-zero, pow-suc, add-sub_cancel_left, div-add-mod', div-lt_iff_lt-mul, mod-lt}
+use mathlib.Core.Bool.{true}
+use mathlib.Core.List.{List, [], ◌++◌}
+use Prim.Native.Nat.{ℕ, zero, suc, ◌+◌, ◌-◌, ◌*◌, ◌/◌, ◌%◌, ◌^◌, ◌<◌}
+use native.Mathlib.Nat.{zero-mul, zero-add, pow-zero, pow-suc, add-sub_cancel_left, div-add-mod', div-lt_iff_lt-mul}
 use native.Mathlib.Omega.{arith}
 use lib.Dec.{ltb}
 use lib.ListN.{length, drop, replicate}
 use lib.Seq.{drop_at}
 use borrow.Author.Tests.{lt-ltb, le-leb, ltb-true, ltb-false}
 use Rattle.numbers.proofs.Bytes.{by_bool}
-use Rattle.words.specs.Digits.{value_from, value_of, spelled, is_digit, digits_only, is_number, number_of, places_in, places, decimal, name_of, number_in}
+use Rattle.words.specs.Digits.{value_from, value_of, spelled, digits_only, is_number, number_of, places_in, places, decimal, name_of, number_in}
 use Rattle.words.specs.declared.decimal.Number.TheVariants.{Value}
 use Rattle.words.proofs.Placing.{places_low, one_place, one_more}
 

@@ -1,6 +1,5 @@
 -- `display::lay` meets its contract: the loop lays the piece over the column, one byte a turn (columns/proofs/Lays.antt). Assumes nothing.
 use mathlib.Core.Path.{refl}
-use Prim.Native.Nat.{◌-◌}
 use Rattle.columns.proofs.Lays.{lay_start, lay_step, lay_end}
 use Rattle.display.proofs.lay.Goals as goal
 

@@ -5,12 +5,12 @@ use Rattle.display.proofs.put.Goals as goal
 
 pub lay-requires-2 : goal.lay-requires-2
 lay-requires-2 c =
-    (omega (arith, c.lay-arg-3-1.given.0, c.write-many.ensures.within, c.requires), c.write-many.ensures.within)
+    (omega (arith, c.write-many.array_long, c.write-many.ensures.within, c.requires), c.write-many.ensures.within)
 
 pub overflow_add-result : goal.overflow_add-result
 overflow_add-result c =
-    omega (arith, c.lay-arg-3-1.given.0, c.write-many.ensures.within, c.requires)
+    omega (arith, c.write-many.array_long, c.write-many.ensures.within, c.requires)
 
 pub returns : goal.returns
 returns c =
-    puts_both c.args.word.now _ _ c.write-many.ensures c.lay-arg-3-1.given.0 c.requires c.lay.ensures c.lay-2.ensures
+    puts_both c.args.word.now _ _ c.write-many.ensures c.write-many.array_long c.requires c.lay.ensures c.lay-2.ensures

@@ -9,12 +9,12 @@ returns-then-not-plain c = refused_zero _ _ _ _ c.nothing.ensures (sym c.plain.e
 
 pub returns-in_default : goal.returns-in_default
 returns-in_default c =
-    refused_word _ _ _ _ c.nothing-in_default.ensures (sym c.read-n.ensures ∙ c.enum_told-1.given.1)
+    refused_word _ _ _ _ c.nothing-in_default.ensures (sym c.read-n.ensures ∙ c.in_default.is)
 
 pub returns-then-limit-value : goal.returns-then-limit-value
 returns-then-limit-value c =
-    refused_large _ _ _ _ c.nothing-then-limit-value.ensures _ (sym c.read-n.ensures ∙ c.n-1.given.1) c.if-limit-value.true
+    refused_large _ _ _ _ c.nothing-then-limit-value.ensures _ (sym c.read-n.ensures ∙ c.in-Value.is) c.if-limit-value.true
 
 pub returns : goal.returns
 returns c =
-    accepted _ _ _ _ (sym c.plain.ensures ∙ c.if-not-plain.false) (sym c.read-n.ensures ∙ c.n-1.given.1) c.if-limit-value.false
+    accepted _ _ _ _ (sym c.plain.ensures ∙ c.if-not-plain.false) (sym c.read-n.ensures ∙ c.in-Value.is) c.if-limit-value.false

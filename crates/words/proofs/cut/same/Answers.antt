@@ -1,5 +1,4 @@
 -- `words::cut::same` meets its contract: what is left of both rows is compared (proofs/Passing.antt). Assumes nothing.
-use Prim.Native.Nat.{◌-◌}
 use Rattle.words.proofs.Passing.{compare_start, compare_step, compare_differs, compare_end, unlike}
 use Rattle.words.proofs.cut.same.Goals as goal
 

@@ -1,7 +1,6 @@
 -- `words::cut::until` meets its contract: the loop passes over the bytes that the test lets pass (proofs/Passing.antt). Assumes nothing.
 use mathlib.Core.Path.{ap}
 use mathlib.Core.Bool.{not}
-use Prim.Native.Nat.{◌-◌}
 use borrow.Author.Tests.{eq-eqb, ne_eqb}
 use Rattle.words.proofs.Passing.{pass_start, pass_step, pass_found, pass_end}
 use Rattle.words.proofs.cut.until.Goals as goal

@@ -1,6 +1,5 @@
 -- `words::decimal::spell` meets its contract: each digit is written in front of those that stand there (proofs/Digits.antt). Assumes nothing.
 use mathlib.Core.Path.{refl}
-use Prim.Native.Nat.{◌-◌}
 use native.Mathlib.Nat.{sub_self}
 use native.Mathlib.Omega.{arith}
 use lib.ListN.{length-set}

@@ -7,8 +7,8 @@ use Rattle.words.proofs.decimal.write.Goals as goal
 
 pub spell-requires : goal.spell-requires
 unfolding places
-spell-requires c = omega (arith, c.places-k.ensures, places_high 19 c.args.n, c.spell-arg-1.given.0.1)
+spell-requires c = omega (arith, c.places-k.ensures, places_high 19 c.args.n, c.told-out)
 
 pub returns : goal.returns
 returns c =
-    written _ _ _ c.places-k.ensures (c.spell.auto.1.1.0 ∙ c.spell-arg-1.given.0.1) c.spell.ensures
+    written _ _ _ c.places-k.ensures (c.spell.auto.out ∙ c.told-out) c.spell.ensures

@@ -1,13 +1,12 @@
 -- `words::name::number_in` meets its contract: the bytes are summed up, and eight of them fit (proofs/Naming.antt). Assumes nothing.
 use mathlib.Core.Path.{◌≡◌}
-use Prim.Native.Nat.{◌-◌}
 use native.Mathlib.Omega.{arith}
 use lib.ListN.{length}
 use borrow.Author.Rules.{rules}
 use Rattle.words.proofs.Naming.{name_start, name_fits, name_step, name_end}
 use Rattle.words.proofs.name.number_in.Goals as goal
 
-long : (c : goal.Start) → length c.args.t1 ≡ 32
+long : (c : goal.Start) → length c.args.name ≡ 32
 long c = search rules
 
 pub loop-i-init : goal.loop-i-init
