@@ -4,6 +4,7 @@ use mathlib.Core.Bool.{true, false}
 use mathlib.Core.List.{List}
 use Prim.Native.Nat.{ℕ, ◌+◌, ◌≤◌}
 use native.Mathlib.Omega.{arith}
+use borrow.Author.Tests.{lt-ltb, le-ltb, le-leb, lt-leb}
 use lib.Dec.{eqb, leb, ltb}
 use lib.ListN.{get_or}
 use Rattle.numbers.proofs.Bytes.{by_bool}
@@ -23,14 +24,14 @@ pub returns-then-many : goal.returns-then-many
 unfolding join_code_by
 returns-then-many c =
     let a = c.args in
-    let many : ltb (get_or a.left.now 0 0) (get_or a.left.now 1 0 + get_or a.right.now 1 0) ≡ true = c.if-many.true in
+    let many : ltb (get_or a.left.now 0 0) (get_or a.left.now 1 0 + get_or a.right.now 1 0) ≡ true = lt-ltb _ _ c.if-many.true in
     simp many
 
 pub returns-then-twice : goal.returns-then-twice
 unfolding join_code_by
 returns-then-twice c =
     let a = c.args in
-    let many : ltb (get_or a.left.now 0 0) (get_or a.left.now 1 0 + get_or a.right.now 1 0) ≡ false = c.if-many.false in
+    let many : ltb (get_or a.left.now 0 0) (get_or a.left.now 1 0 + get_or a.right.now 1 0) ≡ false = le-ltb _ _ c.if-many.false in
     let twice : shared_t (get_or a.left.now 2 0) a.accounts.now (get_or a.right.now 2 0) a.others.now ≡ true = sym c.shared-twice.ensures ∙ c.if-twice.true in
     simp (many, twice)
 
@@ -38,16 +39,16 @@ pub returns-then-used : goal.returns-then-used
 unfolding join_code_by
 returns-then-used c =
     let a = c.args in
-    let many : ltb (get_or a.left.now 0 0) (get_or a.left.now 1 0 + get_or a.right.now 1 0) ≡ false = c.if-many.false in
+    let many : ltb (get_or a.left.now 0 0) (get_or a.left.now 1 0 + get_or a.right.now 1 0) ≡ false = le-ltb _ _ c.if-many.false in
     let twice : shared_t (get_or a.left.now 2 0) a.accounts.now (get_or a.right.now 2 0) a.others.now ≡ false = sym c.shared-twice.ensures ∙ c.if-twice.false in
-    let used : leb 65535 (next_by a.left.now + get_or a.right.now 1 0) ≡ true = rw c.next_number.ensures at c.if-used.true in
+    let used : leb 65535 (next_by a.left.now + get_or a.right.now 1 0) ≡ true = le-leb _ _ (rw c.next_number.ensures at c.if-used.true) in
     simp (many, twice, used)
 
 pub returns : goal.returns
 unfolding join_code_by
 returns c =
     let a = c.args in
-    let many : ltb (get_or a.left.now 0 0) (get_or a.left.now 1 0 + get_or a.right.now 1 0) ≡ false = c.if-many.false in
+    let many : ltb (get_or a.left.now 0 0) (get_or a.left.now 1 0 + get_or a.right.now 1 0) ≡ false = le-ltb _ _ c.if-many.false in
     let twice : shared_t (get_or a.left.now 2 0) a.accounts.now (get_or a.right.now 2 0) a.others.now ≡ false = sym c.shared-twice.ensures ∙ c.if-twice.false in
-    let used : leb 65535 (next_by a.left.now + get_or a.right.now 1 0) ≡ false = rw c.next_number.ensures at c.if-used.false in
+    let used : leb 65535 (next_by a.left.now + get_or a.right.now 1 0) ≡ false = lt-leb _ _ (rw c.next_number.ensures at c.if-used.false) in
     simp (many, twice, used)
