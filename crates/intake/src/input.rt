@@ -1,9 +1,12 @@
 // Standard input, line by line. Bytes are read into a chunk that is lent, and a line is copied out of it, whatever the input's length.
 ghost use Rattle.std.specs.Prelude.{◌≤◌, length};
 
-// Which bytes of the chunk are read and not yet handed on: from `at` to `held`.
+use std::io::{Read, Stdin};
+
+// Where to read, and which bytes of the chunk are read and not yet handed on: from `at` to `held`.
 #[derive(Clone, Copy)]
 pub struct Reader {
+    pub from: Stdin,
     pub at: usize,
     pub held: usize,
 }
@@ -17,13 +20,17 @@ pub struct Got {
 }
 
 // Nothing read yet.
-pub fn fresh() -> Reader
+pub fn fresh(from: Stdin) -> Reader
     ensures { result.held ≤ 0 }
 {
-    Reader { at: 0, held: 0 }
+    Reader {
+        from,
+        at: 0,
+        held: 0,
+    }
 }
 
-// Reads on if every byte was handed on. Afterwards there is a byte, or the input has ended.
+// Reads on if every byte was handed on. Afterwards there is a byte, or the input has ended; a read that fails counts as its end.
 fn filled(chunk: &mut [u8], reader: Reader) -> Reader
     requires { reader.held ≤ length chunk.old }
     ensures { result.held ≤ length chunk.new }
@@ -31,9 +38,12 @@ fn filled(chunk: &mut [u8], reader: Reader) -> Reader
     if reader.at < reader.held {
         return reader;
     }
-    let got = libc::read(libc::STDIN_FILENO, chunk);
-    let held = io::count(got, chunk);
-    Reader { at: 0, held }
+    let mut from = reader.from;
+    let held = match from.read(chunk) {
+        Ok(n) => n,
+        Err(_) => 0,
+    };
+    Reader { from, at: 0, held }
 }
 
 // The next line, without its LF. A last line without LF is a line too.
@@ -45,6 +55,7 @@ pub fn next(chunk: &mut [u8], line: &mut [u8], reader: Reader) -> Got
     let mut n: usize = 0;
     while n < line.len() {
         r = filled(chunk, r);
+        let from = r.from;
         let at = r.at;
         let held = r.held;
         if held <= at {
@@ -55,7 +66,11 @@ pub fn next(chunk: &mut [u8], line: &mut [u8], reader: Reader) -> Got
             };
         }
         let b = chunk[at];
-        r = Reader { at: at + 1, held };
+        r = Reader {
+            from,
+            at: at + 1,
+            held,
+        };
         if b == 10 {
             return Got {
                 reader: r,

@@ -6,6 +6,7 @@ use crate::input;
 use crate::input::Reader;
 use pages::out::Pen;
 use scenario::commands::{Command, Line};
+use std::io::{Stdin, Stdout};
 
 // What is to be done: nothing, or a command so many times, with how many numbers on the list.
 #[derive(Clone, Copy)]
@@ -31,13 +32,13 @@ pub struct Taken {
 }
 
 // The start of a run.
-pub fn fresh() -> Course
+pub fn fresh(from: Stdin, to: Stdout) -> Course
     ensures { result.reader.held ≤ 0 }
 {
     Course {
         number: 0,
-        reader: input::fresh(),
-        pen: pages::out::fresh(),
+        reader: input::fresh(from),
+        pen: pages::out::fresh(to),
         on: true,
     }
 }

@@ -3,7 +3,7 @@
 use mathlib.Core.Path.{◌≡◌, refl, sym, ap, ◌∙◌}
 use mathlib.Core.Bool.{true, false, cond}
 use mathlib.Core.List.{List, [], ◌∷◌, ◌++◌, append-nil, append_assoc}
-use Prim.Native.Nat.{ℕ, zero, suc, ◌+◌, ◌-◌, ◌*◌, ◌≤◌, ◌<◌}
+use Prim.Native.Nat.{ℕ, suc, ◌+◌, ◌-◌, ◌*◌, ◌≤◌, ◌<◌}
 use native.Mathlib.Nat.{add-zero, sub-zero, mul-le-mul_right}
 use native.Mathlib.Numerals.{add-one}
 use native.Mathlib.Omega.{arith}
@@ -19,11 +19,9 @@ use Rattle.columns.proofs.Rows.{flat_append}
 use Rattle.columns.proofs.Scans.{turns}
 use Rattle.numerals.specs.declared.Numeral.{Numeral}
 use Rattle.lines.specs.declared.Line.{Line}
-use Rattle.lines.specs.declared.Lines.{Lines}
 use Rattle.sheet_rules.specs.Sheet.{Read, took, broken, after, stop_by, number_at, line_at, lines_at}
 use Rattle.numerals.specs.Steps.{ReadsNumber}
 use Rattle.lines.specs.Steps.{ReadsLine, ReadsLines}
-use Rattle.sheet_rules.proofs.Texts.{by_read}
 
 -- what was read before stands in front
 abbrev front : {A : Type 0} → List A → Read (List A) → Read (List A)

@@ -1,15 +1,19 @@
 // Buffered writing to standard output. Bytes wait on a page that is lent, and leave when it is full or at the end of the run.
 
-// How many bytes wait on the page, and whether a write failed. After that nothing more is written.
+use std::io::{Print, Stdout};
+
+// Where to write, how many bytes wait on the page, and whether a write failed. After that nothing more is written.
 #[derive(Clone, Copy)]
 pub struct Pen {
+    pub to: Stdout,
     pub used: usize,
     pub failed: bool,
 }
 
 // An empty page.
-pub fn fresh() -> Pen {
+pub fn fresh(to: Stdout) -> Pen {
     Pen {
+        to,
         used: 0,
         failed: false,
     }
@@ -25,10 +29,12 @@ pub fn flush(page: &[u8], pen: Pen) -> Pen {
     if page.len() < used {
         return pen;
     }
-    let written = io::write_all(libc::STDOUT_FILENO, &page[..used]);
+    let to = pen.to;
+    let written = to.write_all(&page[..used]);
     Pen {
+        to,
         used: 0,
-        failed: !written,
+        failed: written.is_err(),
     }
 }
 
@@ -38,6 +44,7 @@ fn byte(page: &mut [u8], pen: Pen, b: u8) -> Pen {
     if page.len() <= now.used {
         now = flush(page, pen);
     }
+    let to = now.to;
     let at = now.used;
     let failed = now.failed;
     if page.len() <= at {
@@ -45,6 +52,7 @@ fn byte(page: &mut [u8], pen: Pen, b: u8) -> Pen {
     }
     page[at] = b;
     Pen {
+        to,
         used: at + 1,
         failed,
     }

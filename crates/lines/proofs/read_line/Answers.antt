@@ -1,6 +1,5 @@
 -- `lines::read_line` meets its contract: the loop reads a number a turn (proofs/Loops.antt). Assumes nothing.
 use mathlib.Core.Path.{refl}
-use Prim.Native.Nat.{◌-◌}
 use native.Mathlib.Omega.{arith}
 use borrow.Author.Tests.{not-true, not-false}
 use Rattle.lines.proofs.Loops.{line_start, line_step, line_broken, line_end}

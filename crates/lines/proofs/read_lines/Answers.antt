@@ -1,6 +1,5 @@
 -- `lines::read_lines` meets its contract: the loop reads a line a turn (proofs/Loops.antt). Assumes nothing.
 use mathlib.Core.Path.{◌∙◌}
-use Prim.Native.Nat.{◌-◌}
 use native.Mathlib.Omega.{arith}
 use borrow.Author.Tests.{not-true, not-false}
 use Rattle.lines.proofs.Loops.{room_for, lines_start, lines_step, lines_broken, lines_end}
@@ -21,7 +20,7 @@ read_line-l-requires c =
 
 pub shape_of-table-then-not-l : goal.shape_of-table-then-not-l
 shape_of-table-then-not-l c =
-    c.read_line-l.auto.1.1.1.0 ∙ c.loop-i.invariant.long
+    c.read_line-l.auto.table ∙ c.loop-i.invariant.long
 
 pub returns-then-not-l : goal.returns-then-not-l
 returns-then-not-l c =

@@ -13,7 +13,7 @@ pub filled-r-requires : goal.filled-r-requires
 filled-r-requires c = c.loop-n.invariant.2
 
 pub shape_of-chunk-then-held-at : goal.shape_of-chunk-then-held-at
-shape_of-chunk-then-held-at c = c.filled-r.auto.0 ∙ c.loop-n.invariant.0
+shape_of-chunk-then-held-at c = c.filled-r.auto.chunk ∙ c.loop-n.invariant.0
 
 pub shape_of-line-then-held-at : goal.shape_of-line-then-held-at
 shape_of-line-then-held-at c = c.loop-n.invariant.1
@@ -26,10 +26,10 @@ bounds-chunk-at c = omega (arith, c.if-held-at.false, c.filled-r.ensures)
 
 pub overflow_add-r : goal.overflow_add-r
 overflow_add-r c =
-    omega (arith, c.if-held-at.false, c.filled-r.ensures, c.filled-r.auto.0, c.loop-n.invariant.0, c.well_formed.0.0)
+    omega (arith, c.if-held-at.false, c.filled-r.ensures, c.filled-r.auto.chunk, c.loop-n.invariant.0, c.well_formed.0.0)
 
 pub shape_of-chunk-then-b-eq10 : goal.shape_of-chunk-then-b-eq10
-shape_of-chunk-then-b-eq10 c = c.filled-r.auto.0 ∙ c.loop-n.invariant.0
+shape_of-chunk-then-b-eq10 c = c.filled-r.auto.chunk ∙ c.loop-n.invariant.0
 
 pub shape_of-line-then-b-eq10 : goal.shape_of-line-then-b-eq10
 shape_of-line-then-b-eq10 c = c.loop-n.invariant.1
@@ -49,7 +49,7 @@ loop-n-smaller c = simp length-set (omega (arith, c.loop-n-test.true))
 
 pub loop-n-preserved : goal.loop-n-preserved
 loop-n-preserved c = (
-  c.filled-r.auto.0 ∙ c.loop-n.invariant.0,
+  c.filled-r.auto.chunk ∙ c.loop-n.invariant.0,
   simp length-set c.loop-n.invariant.1,
   c.filled-r.ensures,
   simp length-set (omega (arith, c.loop-n-test.true)),
