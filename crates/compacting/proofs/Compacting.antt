@@ -28,6 +28,10 @@ pub length_moved : (n : ℕ) (seats owner : List ℕ) → length (moved_c n seat
 unfolding moved_c
 length_moved n seats owner = length_map_i (new_place seats) n 0 owner
 
+-- so the owners keep their number
+pub owners_kept : (n : ℕ) (seats owner owner' : List ℕ) → owner' ≡ moved_c n seats owner → length owner ≡ 2048 → length owner' ≡ 2048
+owners_kept n seats owner owner' e h = ap length e ∙ length_moved n seats owner ∙ h
+
 module _ (n a : ℕ) (seats : List ℕ) (c₀ c : Cols) {r rk rf rt ra rh rp : ℕ} {owner : List ℕ} where
   pub compacted : owner ≡ moved_c n seats c₀.owner
       → Packs (held owner) n (packed 0 (held owner) n c₀.kind) c.kind rk

@@ -9,14 +9,11 @@ use Rattle.buffers.specs.Buffers.{cols_of}
 use Rattle.changes.proofs.Answers.{gives}
 use Rattle.changes.proofs.add.Goals as goal
 
--- the arrays of a message are as long as their types say
-address_long : (c : goal.Start) → length c.args.m.address ≡ 32
-address_long c = search rules
-
-hash_long : (c : goal.Start) → length c.args.m.hash ≡ 32
-hash_long c = search rules
-
 pub returns : goal.returns
 returns c =
+    let m = c.args.m in
     let k = cols_of c.args.buffer in
-    gives c.add-code.result _ c.add-code.ensures (add_is c.args.m k c.requires (address_long c.before.before.before.before.before.before.before.before.before.before.before.before.before.before.before.before.before) (hash_long c.before.before.before.before.before.before.before.before.before.before.before.before.before.before.before.before.before)) (add_good c.args.m k c.requires (address_long c.before.before.before.before.before.before.before.before.before.before.before.before.before.before.before.before.before) (hash_long c.before.before.before.before.before.before.before.before.before.before.before.before.before.before.before.before.before))
+    -- the arrays of a message are as long as their types say
+    let address : length m.address ≡ 32 = search rules in
+    let hash : length m.hash ≡ 32 = search rules in
+    gives c.add-code.result _ c.add-code.ensures (add_is m k c.requires address hash) (add_good m k c.requires address hash)

@@ -9,4 +9,4 @@ use Rattle.changes.proofs.commit.Goals as goal
 pub returns : goal.returns
 returns c =
     let k = cols_of c.args.buffer in
-    gives c.commit-code.result _ (commit_columns k c.commit-code.result c.commit-code.new.0 c.commit-code.ensures) (commit_is k c.requires) (commit_good k c.requires)
+    gives c.commit-code.result _ (commit_columns k c.commit-code.result _ c.commit-code.ensures) (commit_is k c.requires) (commit_good k c.requires)

@@ -1,14 +1,14 @@
 -- `compacting::move_owners` meets its contract: the owners are passed from the front, each place written once (`Passing` of owners).
 -- Assumes nothing.
 use mathlib.Core.Path.{sym, ◌∙◌}
-use Prim.Native.Nat.{◌<◌, ◌-◌}
+use Prim.Native.Nat.{◌<◌}
 use native.Mathlib.Omega.{arith}
 use lib.ListN.{get_or}
 use borrow.Author.Tests.{ltb-true}
 use Rattle.queues.specs.Compact.{moved_c}
-use Rattle.owners.proofs.Passing.{pass_start, pass_end, pass_store, pass_skip}
+use Rattle.owners.proofs.Passing.{pass_start, pass_store, pass_skip, pass_end}
 use Rattle.compacting.proofs.move_owners.Goals as goal
-use Rattle.compacting.proofs.move_owners.Goals.{else-is_place, then-is_place}
+use Rattle.compacting.proofs.move_owners.Goals.{then-is_place, else-is_place}
 
 pub loop-i-init : goal.loop-i-init
 loop-i-init c = pass_start _ _ _
@@ -20,10 +20,12 @@ bounds-seats-wide16 c =
 
 pub loop-i-preserved : goal.loop-i-preserved
 loop-i-preserved c =
-    let l = c.loop-i-test.true in
     let v = c.loop-i.invariant in
+    let l = c.loop-i-test.true in
     let e = sym c.is_place.ensures in
-    elim c.if-is_place.branch [ then-is_place w ↦ rw w.owner-is (pass_store v l (omega arith) _ (rw (e ∙ w.if-is_place.true, w.wide16.ensures.0))) | else-is_place w ↦ rw w.owner-is (pass_skip v l (omega arith) (rw (e ∙ w.if-is_place.false))) ]
+    elim c.if-is_place.branch
+    [ then-is_place w ↦ rw w.owner-is (pass_store v l (omega arith) _ (rw (e ∙ w.if-is_place.true, w.wide16.ensures.0)))
+    | else-is_place w ↦ rw w.owner-is (pass_skip v l (omega arith) (rw (e ∙ w.if-is_place.false))) ]
 
 pub returns : goal.returns
 unfolding moved_c
