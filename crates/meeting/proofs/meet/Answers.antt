@@ -9,8 +9,5 @@ pass_over-requires c =
 pub returns-then-home-party : goal.returns-then-home-party
 returns-then-home-party c = meet_pass _ _ _ _ _ _ c.if-home-party.true c.pass_over.ensures
 
-pub attempt-requires : goal.attempt-requires
-attempt-requires c = c.requires.?NEST
-
 pub returns : goal.returns
 returns c = meet_try _ _ _ _ _ _ c.if-home-party.false c.attempt.ensures

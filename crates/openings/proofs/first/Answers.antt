@@ -5,10 +5,12 @@ use mathlib.Core.Path.{refl, ap, ◌∙◌}
 use native.Mathlib.Nat.{not-suc-le-zero}
 use native.Mathlib.Omega.{arith}
 use borrow.Author.Rules.{rules}
+use Rattle.meaning.specs.Walks.{full_c}
 use Rattle.new_slots.specs.declared.Front.{Front}
 use Rattle.serving.proofs.Records.{ready_record, seek_record, held_record}
-use Rattle.openings.proofs.Steps.{first_end, here, first_drops}
+use Rattle.openings.proofs.Steps.{first_end, here, first_drops, first_full, first_waits}
 use Rattle.openings.proofs.first.Goals as goal
+use Rattle.openings.proofs.first.Goals.{then-not-full, else-not-full}
 
 pub loop-front-init : goal.loop-front-init
 loop-front-init c = record {
@@ -90,7 +92,20 @@ loop-front-smaller c =
     omega (arith, c.loop-front-test.true, ap (λ (x : Front). x.left) c.onward-front.ensures)
 
 pub loop-front-preserved : goal.loop-front-preserved
-loop-front-preserved c = ?
+loop-front-preserved c =
+    let a = c.loop-front in
+    let v = a.invariant in
+    let l = c.loop-front-test.true in
+    let t = c.write_table-table.ensures in
+    let e = seek_record a.table v.ready (here v l) c.seek-w.result.record t _ a.at c.seek-w.ensures in
+    let held = held_record a.table v.ready (here v l) c.seek-w.result.record t in
+    let n = c.held.ensures ∙ held in
+    let y = c.full.ensures ∙ ap (full_c _) held in
+    let given = c.next_number.ensures in
+    elim c.if-not-full.branch [
+      then-not-full w ↦ rw (c.onward-front.ensures, given, w.line-is, w.tail-is) (first_waits v l e n c.if-held-eq0.false y w.if-not-full.true)
+    | else-not-full w ↦ rw (c.onward-front.ensures, given, w.line-is, w.tail-is) (first_full v l e n c.if-held-eq0.false y w.if-not-full.false)
+    ]
 
 pub serve-w-requires : goal.serve-w-requires
 serve-w-requires c =

@@ -4,8 +4,9 @@ use mathlib.Core.Path.{refl}
 use Prim.Native.Nat.{◌-◌}
 use native.Mathlib.Omega.{arith}
 use Rattle.rosters.proofs.Rosters.{listed_none}
-use Rattle.second_pass.proofs.Steps.{second_none, second_end}
+use Rattle.second_pass.proofs.Steps.{second_none, second_end, second_visits, second_past}
 use Rattle.second_pass.proofs.second.Goals as goal
+use Rattle.second_pass.proofs.second.Goals.{then-slot-entry, else-slot-entry}
 
 pub returns-then-count-eq0 : goal.returns-then-count-eq0
 returns-then-count-eq0 c = second_none _ _ _ _ _ _ c.if-count-eq0.true _ _
@@ -35,7 +36,18 @@ pub loop-i-smaller : goal.loop-i-smaller
 loop-i-smaller c = omega (arith, c.loop-i-test.true)
 
 pub loop-i-preserved : goal.loop-i-preserved
-loop-i-preserved c = ?
+loop-i-preserved c =
+    let v = c.loop-i.invariant in
+    let h = c.loop-i-test.true in
+    let e = c.position_of-slot.ensures in
+    let b = c.requires.bound in
+    let n = c.requires.number_len in
+    elim c.if-slot-entry.branch [
+      then-slot-entry w ↦ rw (w.owner-is, w.taken-is, w.home-is, w.member-is, w.mark-is, w.joined-is, w.roster-is, w.at-is, w.table-is, w.now-is)
+          (second_visits v h (omega (arith, b.1, n.1)) e w.if-slot-entry.true b.0 w.visit_slot-w.ensures.tally_after w.visit_slot-w.ensures.listed)
+    | else-slot-entry w ↦ rw (w.owner-is, w.taken-is, w.home-is, w.member-is, w.mark-is, w.joined-is, w.roster-is, w.at-is, w.table-is, w.now-is)
+          (second_past v h (omega (arith, b.1, n.1)) e (λ q. omega (arith, w.if-slot-entry.false, q)))
+    ]
 
 pub returns : goal.returns
 returns c = second_end c.loop-i.invariant c.loop-i-test.false

@@ -16,8 +16,8 @@ loop-k-init c = rows_start _ _ _ _ _
 
 pub account_of-x-requires : goal.account_of-x-requires
 account_of-x-requires c =
-    let p = c.requires.?NEST in
-    (omega (arith, c.wide16.ensures.0, p.0.there c.loop-k.k c.loop-k-test.true), p.1.0, p.1.1)
+    let p = c.requires in
+    (omega (arith, c.wide16.ensures.0, p.takes_parties.there c.loop-k.k c.loop-k-test.true), p.accounts_len.0, p.accounts_len.1)
 
 pub loop-k-preserved : goal.loop-k-preserved
 loop-k-preserved c =

@@ -1,14 +1,14 @@
 -- `telling::keys` meets its contract: the keys of the internals passed lie at the front of the key list (proofs/KeyRows.antt, `Keying`).
 -- Assumes nothing.
-use Rattle.columns.specs.Rows.{row_at}
 use mathlib.Core.Path.{ap, ◌∙◌}
 use Prim.Native.Nat.{◌-◌, ℕ}
 use native.Mathlib.Omega.{arith}
 use lib.ListN.{length, get_or}
+use Rattle.columns.specs.Rows.{row_at}
 use Rattle.columns.proofs.Rows.{length_row}
-use Rattle.telling.proofs.KeyRows.{key_start, key_end, key_room, key_true, key_step, key_skip, key_false}
+use Rattle.telling.proofs.KeyRows.{key_start, key_step, key_skip, key_end, key_room, key_true, key_false}
 use Rattle.telling.proofs.keys.Goals as goal
-use Rattle.telling.proofs.keys.Goals.{else-kind-row-ne1, then-kind-row-ne1}
+use Rattle.telling.proofs.keys.Goals.{then-kind-row-ne1, else-kind-row-ne1}
 
 pub loop-k-init : goal.loop-k-init
 loop-k-init c = key_start _ _ _ _ _ _ _
@@ -46,14 +46,21 @@ put_row-requires c =
 
 pub loop-k-preserved : goal.loop-k-preserved
 loop-k-preserved c =
+    let v = c.loop-k.invariant in
     let l = c.loop-k-test.true in
     let is = c.wide16-row.ensures.0 in
     let a = c.args in
-    elim c.if-kind-row-ne1.branch [ then-kind-row-ne1 w ↦ let x = w.get_row-h.ensures ∙ ap (row_at a.hash.now) is in
-    let wide = ap length x ∙ length_row a.hash.now _ (omega (arith, c.requires.there c.loop-k.k l, c.requires.hash_long)) in
-    rw (w.lts-is, w.hashes-is, w.w-is, w.put_row.ensures)
-    (key_step c.loop-k.invariant l (key_true a.rows.now a.kind.now c.loop-k.k _ is w.if-kind-row-ne1.true) c.requires.fits c.requires.hashes_fit _
-    (ap (λ (i : ℕ). get_or a.time.now i 0) is) _ x wide) | else-kind-row-ne1 w ↦ rw (w.lts-is, w.hashes-is, w.w-is) (key_skip c.loop-k.invariant l (key_false a.rows.now a.kind.now c.loop-k.k _ is w.if-kind-row-ne1.false)) ]
+    let p = c.requires in
+    elim c.if-kind-row-ne1.branch [
+      then-kind-row-ne1 w ↦
+          let x = w.get_row-h.ensures ∙ ap (row_at a.hash.now) is in
+          let wide = ap length x ∙ length_row a.hash.now _ (omega (arith, p.there c.loop-k.k l, p.hash_long)) in
+          rw (w.lts-is, w.hashes-is, w.w-is, w.put_row.ensures)
+          (key_step v l (key_true a.rows.now a.kind.now c.loop-k.k _ is w.if-kind-row-ne1.true) p.fits p.hashes_fit _
+          (ap (λ (i : ℕ). get_or a.time.now i 0) is) _ x wide)
+    | else-kind-row-ne1 w ↦
+          rw (w.lts-is, w.hashes-is, w.w-is) (key_skip v l (key_false a.rows.now a.kind.now c.loop-k.k _ is w.if-kind-row-ne1.false))
+    ]
 
 pub returns : goal.returns
 returns c = key_end c.loop-k.invariant c.loop-k-test.false
