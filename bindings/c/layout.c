@@ -1,5 +1,5 @@
 /* The states of the exports field by field, and checks at compile time that this compiler lays them out as the archives do: there is nothing
- * in it to link. Written by tools/walks.py from the structs that the crates export_* declare; the offsets are those of their proofs. */
+ * in it to link. Written by tools/walks.py from the structs that the crates export_* declare; the offsets are those that C gives them. */
 #include "lintelsong.h"
 
 static_assert(sizeof(size_t) == 8, "size_t");

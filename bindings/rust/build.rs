@@ -13,7 +13,7 @@ const ARCHIVES: [&str; 5] = [
     "export_fill",
 ];
 
-/// Where `rt staticlib` puts them, seen from this package.
+/// Where `bindings/build` puts them, seen from this package.
 const USUAL_PLACE: &str = "../../target/staticlib";
 
 fn main() {
@@ -27,7 +27,7 @@ fn main() {
         println!("cargo:rerun-if-changed={}", archive.display());
         if !archive.is_file() {
             eprintln!(
-                "{} is missing: `rt staticlib {name}` makes it;",
+                "{} is missing: `bindings/build` makes it;",
                 archive.display()
             );
             eprintln!("LINTELSONG_ARCHIVES names the folder of the archives if it is another.");

@@ -1,5 +1,5 @@
 //! The states of the exports as the archives lay them out, and checks at compile time that this compiler does the same.
-//! Written by tools/walks.py from the structs that the crates export_* declare; the offsets are those of their proofs.
+//! Written by tools/walks.py from the structs that the crates export_* declare; the offsets are those that C gives them.
 
 use std::mem::{align_of, offset_of, size_of};
 

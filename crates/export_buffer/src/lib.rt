@@ -36,6 +36,8 @@ pub struct Buffer {
     numbers: [u64; 528],
 }
 
+const _: () = prove!(size_of::<Buffer>() == 176256 && align_of::<Buffer>() == 8);
+
 // ---- set-up
 
 // Sets a buffer up in any memory for M messages, 1 to 1,024, and A accounts, 1 to 256. A refused one has room for one of each.

@@ -21,6 +21,8 @@ pub struct Buffer {
     numbers: [u64; 528],
 }
 
+const _: () = prove!(size_of::<Buffer>() == 176256 && align_of::<Buffer>() == 8);
+
 // A group of at most 64 slots, 1,024 accounts and 1,024 messages.
 #[repr(C)]
 #[derive(Clone, Copy)]
@@ -40,6 +42,8 @@ pub struct Group {
     numbers: [u64; 16],
 }
 
+const _: () = prove!(size_of::<Group>() == 116352 && align_of::<Group>() == 8);
+
 // A set of at most 512 accounts that fills pass over.
 #[repr(C)]
 #[derive(Clone, Copy)]
@@ -47,6 +51,8 @@ pub struct Skipped {
     accounts: [u8; 16384],
     held: usize,
 }
+
+const _: () = prove!(size_of::<Skipped>() == 16392 && align_of::<Skipped>() == 8);
 
 // Fills a group from a buffer: codes 9 to 13. A skip row is a name of 32 bytes, a verdict (0 does not skip) and a cost; there are as many as the
 // shortest of the three lists has, and `cost` is that of an account without one. A key row is a created_lt and a hash of 32 bytes. A `filtered`

@@ -35,6 +35,8 @@ pub struct Group {
     numbers: [u64; 16],
 }
 
+const _: () = prove!(size_of::<Group>() == 116352 && align_of::<Group>() == 8);
+
 // Sets a group up in any memory for S slots, 1 to 64. A refused one has room for one slot.
 #[unsafe(no_mangle)]
 pub extern "C" fn lintelsong_group_set_up(g: &mut Group, slots: u64) -> u8

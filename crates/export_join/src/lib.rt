@@ -24,6 +24,8 @@ pub struct Group {
     numbers: [u64; 16],
 }
 
+const _: () = prove!(size_of::<Group>() == 116352 && align_of::<Group>() == 8);
+
 // Joins the right group to the left: codes 14, 15, 12, in this order. The right is fresh afterwards; refused, both are as they were.
 #[unsafe(no_mangle)]
 pub extern "C" fn lintelsong_group_join(left: &mut Group, right: &mut Group) -> u8

@@ -19,6 +19,8 @@ pub struct Skipped {
     held: usize,
 }
 
+const _: () = prove!(size_of::<Skipped>() == 16392 && align_of::<Skipped>() == 8);
+
 // Makes a set of no accounts in any memory. Answers 0.
 #[unsafe(no_mangle)]
 pub extern "C" fn lintelsong_skipped_set_up(s: &mut Skipped) -> u8

@@ -9,8 +9,8 @@ use Rattle.export_buffer.proofs.lintelsong_buffer_message_at.Goals as goal
 pub returns : goal.returns
 returns c = (
   subst
-  (λ (s : SeenMessage). ToldMessage c.message_at.result c.message_at.new.facts c.message_at.new.to c.message_at.new.hashed s)
-  (message_seen (cols_of c.args.b.now) c.requires c.args.place c.args.position)
-  c.message_at.ensures,
+      (λ (s : SeenMessage). ToldMessage c.message_at.result c.message_at.new.facts c.message_at.new.to c.message_at.new.hashed s)
+      (message_seen (cols_of c.args.b.now) c.requires c.args.place c.args.position)
+      c.message_at.ensures,
   refl,
 )
