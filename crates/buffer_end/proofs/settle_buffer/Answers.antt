@@ -1,8 +1,10 @@
 -- `buffer_end::settle_buffer` meets its contract: the packing by the seats, the numbers put right, and the index made anew
 -- (proofs/Settling.antt). Assumes nothing.
+use mathlib.Core.List.{[]}
 use mathlib.Core.Path.{sym, ap, subst, ◌∙◌}
 use Prim.Native.Nat.{ℕ, ◌≤◌}
 use lib.ListN.{length}
+use Rattle.queues.specs.Cols.{cols}
 use Rattle.leaving.proofs.Staying.{few, seated, length_seated, indexable}
 use Rattle.settle.proofs.Counts.{counts_long}
 use Rattle.leftover.proofs.Internals.{count_le}
@@ -22,7 +24,11 @@ count_internals-ints-requires c =
     let g = c.requires.good in
     let wide = c.requires.left_len in
     let e = c.copy_back.ensures in
-    (left_few c.args.left.now _ g wide _ e c.compact-r.ensures, kind_long c.args.left.now _ g wide _ e c.compact-r.ensures)
+    let x = c.compact-r.new in
+    let packed = cols x.owner x.kind x.form x.time x.address x.hash x.accounts [] in (
+      left_few c.args.left.now _ g wide _ e {c₁ = packed} c.compact-r.ensures,
+      kind_long c.args.left.now _ g wide _ e {c₁ = packed} c.compact-r.ensures,
+    )
 
 pub count_left-requires : goal.count_left-requires
 count_left-requires c = (
@@ -33,7 +39,9 @@ count_left-requires c = (
 pub rebuild-requires : goal.rebuild-requires
 rebuild-requires c =
     let g = c.requires.good in
-    let fits = indexable (seated _ g) g.lengths.accounts c.seat_holders-stay.ensures c.compact-r.ensures in
+    let x = c.compact-r.new in
+    let packed = cols x.owner x.kind x.form x.time x.address x.hash x.accounts [] in
+    let fits = indexable {c₁ = packed} (seated _ g) g.lengths.accounts c.seat_holders-stay.ensures c.compact-r.ensures in
     (fits.0, fits.1, ap length c.count_left.ensures ∙ counts_long _ _ _ c.args.numbers.now ∙ g.many)
 
 pub returns : goal.returns
