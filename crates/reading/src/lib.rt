@@ -1,0 +1,27 @@
+// Reading all at once: until a row is full or the input ends.
+#![tactic(auto)]
+
+ghost use Rattle.std.specs.Prelude.{◌<◌, length, take, IfOk};
+ghost use Rattle.std.specs.Io.{ReadsAtMost};
+ghost use Rattle.std.specs.Io.KnownBytes.{Consumes, IsAtEnd};
+
+use std::io;
+use std::io::Read;
+
+// Fills the row from its start, and says how many bytes were read: as many as it has room for, or as many as there are. After a read that
+// fails nothing is said of what was read before.
+pub fn full<R: Read>(from: &mut R, row: &mut [u8]) -> io::Result<usize>
+    ensures within { ReadsAtMost result row.new }
+    ensures bytes { IfOk result (λ n. Consumes (R.remaining from.old) (R.remaining from.new) (take n row.new)) }
+    ensures ended { IfOk result (λ n. n < length row.new → IsAtEnd (R.remaining from.new)) }
+{
+    let mut done: usize = 0;
+    while done < row.len() {
+        let n = from.read(&mut row[done..])?;
+        if n == 0 {
+            return Ok(done);
+        }
+        done += n;
+    }
+    Ok(done)
+}
