@@ -1,12 +1,12 @@
 """What stored-run and compare-replay share: scenarios, and who answers them.
 
-The oracle and its generator stand in oracle/target/release, or in the folder that ORACLE names; the program is target/bin/replay, where
-`rt check` puts it, or the file that REPLAY names."""
+The oracle and its generator stand in oracle/target/release, or in the folder that ORACLE names; the program is crates/replay/out/replay, where
+`rt run` in crates/replay puts it, or the file that REPLAY names."""
 import os, random, re, subprocess, sys
 
 TOP = os.path.dirname(os.path.dirname(os.path.abspath(__file__)))
 BIN = os.environ.get("ORACLE") or os.path.join(TOP, "oracle", "target", "release")
-PROGRAM = os.environ.get("REPLAY") or os.path.join(TOP, "target", "bin", "replay")
+PROGRAM = os.environ.get("REPLAY") or os.path.join(TOP, "crates", "replay", "out", "replay")
 PROFILES = ["dense", "stale", "rows", "externals", "transactions", "joins", "limits", "numbers", "mixed"]
 MOST = 2 ** 64 - 1
 
@@ -14,7 +14,7 @@ MOST = 2 ** 64 - 1
 def answer(words, text=b""):
     """What a program writes on an input. One that is missing or fails is an error of its own."""
     if not os.path.exists(words[0]):
-        sys.exit("%s is missing: oracle/build makes the oracle's programs, `rt check` the port's" % words[0])
+        sys.exit("%s is missing: oracle/build makes the oracle's programs, `rt run` the port's" % words[0])
     done = subprocess.run(words, input=text, stdout=subprocess.PIPE, stderr=subprocess.PIPE)
     if done.returncode != 0:
         sys.exit("%s: status %d: %s" % (words[0], done.returncode, done.stderr[-2000:].decode("utf-8", "replace")))
