@@ -8,6 +8,7 @@ use native.Mathlib.Omega.{arith}
 use lib.ListN.{length, get_or}
 use Rattle.rules.specs.Fill.{fill_code}
 use Rattle.message.specs.declared.Code.{Code}
+use Rattle.message.specs.declared.Filter.{Filter}
 use Rattle.message.specs.Answers.{number as number_of}
 use Rattle.message.specs.Real.{Real}
 use Rattle.queues.specs.Cols.{Cols, live}
@@ -26,7 +27,7 @@ use Rattle.limits.specs.Limits.{rows_in}
 use Rattle.refusals.specs.Refusals.{MayDecide, code_c}
 use Rattle.settle_rules.specs.Settling.{MaySettle, Settled}
 use Rattle.fill_rules.specs.Passing.{MayPass, Passed, pass_w, accounts_of, held_of, slots_of, opens_of, ran_of}
-use Rattle.fill_rules.specs.Fills.{Keys, keys, rows_of_keys, code_of, Accepted, Says, says, Left, left, Stays, Takes, Fills}
+use Rattle.fill_rules.specs.Fills.{call_of, Keys, keys, rows_of_keys, code_of, Accepted, Says, says, Left, left, Stays, Takes, Fills}
 use Rattle.fill_rules.proofs.CodeRule.{code_is, accepted_of}
 use Rattle.fill_rules.proofs.PassRule.{may_pass, passed}
 use Rattle.fill_rules.proofs.SettleRule.{may_settle}
@@ -64,6 +65,18 @@ pub record Called (v : Call) (rows : ℕ) : Type 0 where
   pub set : GoodRows v.said.k v.said.set
   pub said : Spoken v.said
   pub rows_are : rows ≡ v.said.n
+
+-- a call by its arguments
+pub called : {c : Cols} {t : Table} {set : List ℕ} {held : ℕ} → queues.Good c × slots.Good t × GoodRows held set → (asked height : ℕ) (f : Filter)
+    (names verdicts costs : List ℕ) (default rows : ℕ) → rows ≡ rows_in (length names) (length verdicts) (length costs)
+    → Called (call_of c t set held asked height f names verdicts costs default) rows
+called p asked height f names verdicts costs default rows e = record {
+  buffer = p.0;
+  group = p.1;
+  set = p.2;
+  said = spoken _ _ names verdicts costs default p.2;
+  rows_are = e;
+}
 
 module _ {v : Call} {rows : ℕ} (p : Called v rows) where
   pub may_decide : MayDecide rows v.said.verdicts v.said.k v.buffer.numbers
@@ -105,6 +118,11 @@ pub record Taken (v : Call) (k : Keys) (rows : ℕ) (code : Code) : Type 0 where
   pub called : Called v rows
   pub decided : code ≡ code_of v k
   pub done : number_of code ≡ 0
+
+-- the code of a call with n key rows is 0
+pub taken : {v : Call} {rows : ℕ} (p : Called v rows) (k : Keys) (n : ℕ) → n ≡ rows_of_keys k → (code : Code) → code ≡ code_by p n rows
+    → (m : ℕ) → m ≡ number_of code → m ≡ 0 → Taken v k rows code
+taken p k n e code d m f z = record { called = p; decided = decided p k n e code d; done = sym f ∙ z }
 
 module _ {v : Call} {k : Keys} {rows : ℕ} {code : Code} (p : Taken v k rows code) where
   abbrev c : Called v rows

@@ -1,33 +1,30 @@
 -- `numbered::judge_all` meets its contract: the order's accounts are judged, then the group's, on columns that keep their lengths
 -- (proofs/Members.antt). Assumes nothing.
 use native.Mathlib.Omega.{arith}
-use Rattle.entry.specs.Entry.{Sayings, sayings}
+use Rattle.entry.specs.Entry.{sayings}
 use Rattle.numbered.proofs.Members.{marks_long, costs_long}
 use Rattle.numbered.proofs.Parts.{judged_are}
 use Rattle.numbered.proofs.judge_all.Goals as goal
-
-abbrev said : goal.Start → Sayings
-said c =
-    let a = c.args in
-    sayings a.set.now a.k a.names.now a.verdicts.now a.costs.now a.n a.default
 
 pub judge_group-requires : goal.judge_group-requires
 judge_group-requires c =
     let a = c.args in
     let p = c.requires.order_len in
-    let e = c.judge_order.ensures in record {
+    let said = sayings a.set.now a.k a.names.now a.verdicts.now a.costs.now a.n a.default in
+    let e = c.judge_order.ensures in
+    record {
       spoken = c.requires.spoken;
       members_in_bounds = (
         omega (arith, p.2, p.3),
         p.3,
         p.4,
-        marks_long (said c.before.before.before.before.before.before.before.before.before.before.before.before) a.order.now a.places p.1 e,
-        costs_long (said c.before.before.before.before.before.before.before.before.before.before.before.before) a.order.now a.places p.1 e,
+        marks_long said a.order.now a.places p.1 e,
+        costs_long said a.order.now a.places p.1 e,
       );
     }
 
 pub returns : goal.returns
 returns c =
     let a = c.args in
-    judged_are (said c.before.before.before.before.before.before.before.before.before.before.before.before.before) a.order.now a.places a.group.now a.members a.member.now
+    judged_are (sayings a.set.now a.k a.names.now a.verdicts.now a.costs.now a.n a.default) a.order.now a.places a.group.now a.members a.member.now
     c.judge_order.ensures _ _ c.judge_group.ensures

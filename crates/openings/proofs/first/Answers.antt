@@ -103,8 +103,8 @@ loop-front-preserved c =
     let y = c.full.ensures ∙ ap (full_c _) held in
     let given = c.next_number.ensures in
     elim c.if-not-full.branch [
-      then-not-full w ↦ rw (c.onward-front.ensures, given, w.line-is, w.tail-is) (first_waits v l e n c.if-held-eq0.false y w.if-not-full.true)
-    | else-not-full w ↦ rw (c.onward-front.ensures, given, w.line-is, w.tail-is) (first_full v l e n c.if-held-eq0.false y w.if-not-full.false)
+      | then-not-full w ↦ rw (c.onward-front.ensures, given, w.line-is, w.tail-is) (first_waits v l e n c.if-held-eq0.false y w.if-not-full.true)
+      | else-not-full w ↦ rw (c.onward-front.ensures, given, w.line-is, w.tail-is) (first_full v l e n c.if-held-eq0.false y w.if-not-full.false)
     ]
 
 pub serve-w-requires : goal.serve-w-requires

@@ -5,10 +5,6 @@ use Rattle.limits.proofs.Counting.{not_large}
 use Rattle.refusals.specs.Refusals.{code_c}
 use Rattle.refusals.proofs.decide.Goals as goal
 
--- from the last test back to the one before it
-abbrev skipped : goal.Else-used_up → tie.Else3
-skipped c = c.before.before.before.before
-
 pub returns-then-too_large : goal.returns-then-too_large
 unfolding code_c
 returns-then-too_large c = rw (sym c.too_large.ensures ∙ c.if-too_large.true)
@@ -45,21 +41,17 @@ returns-then-used_up c =
 
 pub overfull-requires : goal.overfull-requires
 overfull-requires c =
-    let e = (skipped c).before.before.before.before in
-    let p = e.before.before.before.before.pre in
-    let n = not_large _ _ _ (sym e.before.too_large.ensures ∙ e.if1.left) in
+    let p = c.requires in
+    let n = not_large _ _ _ (sym c.too_large.ensures ∙ c.if-too_large.false) in
     (p.number_long, omega (arith, p.slots_fit, p.few), p.buckets_good, n.1)
 
 pub returns-then-overfull : goal.returns-then-overfull
 unfolding code_c
 returns-then-overfull c =
-    let b = skipped c.before.before in
-    let d = b.before.before in
-    let e = d.before.before in
     rw (
-      sym e.before.too_large.ensures ∙ e.if1.left,
-      sym d.before.few-keys.ensures ∙ d.if2.left,
-      sym b.before.many-skips.ensures ∙ b.if3.left,
+      sym c.too_large.ensures ∙ c.if-too_large.false,
+      sym c.few_keys.ensures ∙ c.if-few_keys.false,
+      sym c.many_skips.ensures ∙ c.if-many_skips.false,
       sym c.used_up.ensures ∙ c.if-used_up.false,
       ← c.overfull.ensures,
       c.if-overfull.true,
@@ -68,13 +60,10 @@ returns-then-overfull c =
 pub returns : goal.returns
 unfolding code_c
 returns c =
-    let b = skipped c.before.before in
-    let d = b.before.before in
-    let e = d.before.before in
     rw (
-      sym e.before.too_large.ensures ∙ e.if1.left,
-      sym d.before.few-keys.ensures ∙ d.if2.left,
-      sym b.before.many-skips.ensures ∙ b.if3.left,
+      sym c.too_large.ensures ∙ c.if-too_large.false,
+      sym c.few_keys.ensures ∙ c.if-few_keys.false,
+      sym c.many_skips.ensures ∙ c.if-many_skips.false,
       sym c.used_up.ensures ∙ c.if-used_up.false,
       ← c.overfull.ensures,
       c.if-overfull.false,

@@ -43,9 +43,9 @@ loop-i-preserved c =
     let b = c.requires.bound in
     let n = c.requires.number_len in
     elim c.if-slot-entry.branch [
-      then-slot-entry w ↦ rw (w.owner-is, w.taken-is, w.home-is, w.member-is, w.mark-is, w.joined-is, w.roster-is, w.at-is, w.table-is, w.now-is)
+      | then-slot-entry w ↦ rw (w.owner-is, w.taken-is, w.home-is, w.member-is, w.mark-is, w.joined-is, w.roster-is, w.at-is, w.table-is, w.now-is)
           (second_visits v h (omega (arith, b.1, n.1)) e w.if-slot-entry.true b.0 w.visit_slot-w.ensures.tally_after w.visit_slot-w.ensures.listed)
-    | else-slot-entry w ↦ rw (w.owner-is, w.taken-is, w.home-is, w.member-is, w.mark-is, w.joined-is, w.roster-is, w.at-is, w.table-is, w.now-is)
+      | else-slot-entry w ↦ rw (w.owner-is, w.taken-is, w.home-is, w.member-is, w.mark-is, w.joined-is, w.roster-is, w.at-is, w.table-is, w.now-is)
           (second_past v h (omega (arith, b.1, n.1)) e (λ q. omega (arith, w.if-slot-entry.false, q)))
     ]
 

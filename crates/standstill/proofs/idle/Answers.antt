@@ -14,9 +14,9 @@ returns-then-opens-ne0 c = rw (ne_eqb _ _ c.if-places-eq0.false, ne_eqb _ _ c.if
 pub returns-in-Off : goal.returns-in-Off
 unfolding idle_c
 returns-in-Off c =
-    rw (ne_eqb _ _ c.if-places-eq0.false, c.if-opens-ne0.false, c.enum_told-1.given.1) c.none_below.ensures
+    rw (ne_eqb _ _ c.if-places-eq0.false, c.if-opens-ne0.false, c.in-Off.is) c.none_below.ensures
 
 pub returns-in-Below : goal.returns-in-Below
 unfolding idle_c
 returns-in-Below c =
-    rw (ne_eqb _ _ c.if-places-eq0.false, c.if-opens-ne0.false, c.enum_told-in-Below-1.given.1)
+    rw (ne_eqb _ _ c.if-places-eq0.false, c.if-opens-ne0.false, c.in-Below.is)

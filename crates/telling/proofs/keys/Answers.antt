@@ -52,13 +52,13 @@ loop-k-preserved c =
     let a = c.args in
     let p = c.requires in
     elim c.if-kind-row-ne1.branch [
-      then-kind-row-ne1 w ↦
+      | then-kind-row-ne1 w ↦
           let x = w.get_row-h.ensures ∙ ap (row_at a.hash.now) is in
           let wide = ap length x ∙ length_row a.hash.now _ (omega (arith, p.there c.loop-k.k l, p.hash_long)) in
           rw (w.lts-is, w.hashes-is, w.w-is, w.put_row.ensures)
           (key_step v l (key_true a.rows.now a.kind.now c.loop-k.k _ is w.if-kind-row-ne1.true) p.fits p.hashes_fit _
           (ap (λ (i : ℕ). get_or a.time.now i 0) is) _ x wide)
-    | else-kind-row-ne1 w ↦
+      | else-kind-row-ne1 w ↦
           rw (w.lts-is, w.hashes-is, w.w-is) (key_skip v l (key_false a.rows.now a.kind.now c.loop-k.k _ is w.if-kind-row-ne1.false))
     ]
 
