@@ -27,9 +27,9 @@ pub returns : goal.returns
 returns c =
     let a = c.args in
     let left = table a.number.now a.ints.now a.exts.now a.accounts.now a.home.now a.owner.now a.kind.now a.form.now a.time.now
-        a.address.now a.hash.now a.buckets.now a.numbers.now in
+    a.address.now a.hash.now a.buckets.now a.numbers.now in
     let right = table a.number2.now a.ints2.now a.exts2.now a.accounts2.now a.home2.now a.owner2.now a.kind2.now a.form2.now a.time2.now
-        a.address2.now a.hash2.now a.buckets2.now a.numbers2.now in
+    a.address2.now a.hash2.now a.buckets2.now a.numbers2.now in
     let p = c.requires in
     join_taken left right _ c.decide-code.ensures _ _
     (joinable p.0 p.1 c.decide-code.ensures (sym c.number_of.ensures ∙ c.if-number_of-ne0.false)) c.add.ensures c.clear.ensures
