@@ -62,6 +62,10 @@ done_of Overfull e = absurd (omega arith)
 done_of ManySlots e = absurd (omega arith)
 done_of SharedAccount e = absurd (omega arith)
 
+-- past the refusal the join is taken
+pub joinable : {l r : Table} {code : Code} → Good l → Good r → code ≡ join_code_t l r → number_of code ≡ 0 → Joinable l r
+joinable {code = code} g h e z = record { left = g; right = h; taken = sym e ∙ done_of code z }
+
 -- a group's counts are few
 kinds_few : (t : Table) → Good t → count t 4 + count t 5 ≤ 1024
 unfolding group_ints group_exts

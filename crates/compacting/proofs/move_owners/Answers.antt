@@ -23,9 +23,10 @@ loop-i-preserved c =
     let v = c.loop-i.invariant in
     let l = c.loop-i-test.true in
     let e = sym c.is_place.ensures in
-    elim c.if-is_place.branch
-    [ then-is_place w ↦ rw w.owner-is (pass_store v l (omega arith) _ (rw (e ∙ w.if-is_place.true, w.wide16.ensures.0)))
-    | else-is_place w ↦ rw w.owner-is (pass_skip v l (omega arith) (rw (e ∙ w.if-is_place.false))) ]
+    elim c.if-is_place.branch [
+      | then-is_place w ↦ rw w.owner-is (pass_store v l (omega arith) _ (rw (e ∙ w.if-is_place.true, w.wide16.ensures.0)))
+      | else-is_place w ↦ rw w.owner-is (pass_skip v l (omega arith) (rw (e ∙ w.if-is_place.false)))
+    ]
 
 pub returns : goal.returns
 unfolding moved_c

@@ -1,6 +1,8 @@
 -- `removal::remove` meets its contract: well-formed columns meet what each call requires, and the calls' contracts together are the answer
 -- (proofs/Removing.antt). Assumes nothing.
+use mathlib.Core.List.{[]}
 use mathlib.Core.Path.{refl}
+use Rattle.queues.specs.Cols.{cols}
 use Rattle.leaving.proofs.Staying.{few, seated, owned, length_seated, indexable}
 use Rattle.removal.proofs.Removing.{refused, removed, long, whole}
 use Rattle.removal.proofs.remove.Goals as goal
@@ -24,7 +26,9 @@ compact-r-requires c =
 pub count_out-requires : goal.count_out-requires
 count_out-requires c =
     let g = c.requires in
-    let fits = indexable (seated _ g) g.lengths.accounts c.seat_unnamed-stay.ensures c.compact-r.ensures in
+    let x = c.compact-r.new in
+    let packed = cols x.owner x.kind x.form x.time x.address x.hash x.accounts [] in
+    let fits = indexable {c₁ = packed} (seated _ g) g.lengths.accounts c.seat_unnamed-stay.ensures c.compact-r.ensures in
     (fits.0, fits.1, g.many)
 
 pub returns : goal.returns
