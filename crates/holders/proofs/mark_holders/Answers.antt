@@ -4,8 +4,9 @@ use Prim.Native.Nat.{◌-◌, ◌<◌}
 use native.Mathlib.Omega.{arith}
 use lib.ListN.{get_or}
 use borrow.Author.Tests.{ltb-true}
-use Rattle.holders.proofs.Seats.{mark_start, mark_end}
+use Rattle.holders.proofs.Seats.{mark_start, mark_end, mark_step, mark_skip}
 use Rattle.holders.proofs.mark_holders.Goals as goal
+use Rattle.holders.proofs.mark_holders.Goals.{else-is_place, then-is_place}
 
 pub loop-i-init : goal.loop-i-init
 loop-i-init c = mark_start _ _ _
@@ -16,7 +17,10 @@ bounds-held-wide16 c =
     omega (arith, h, c.wide16.ensures.0)
 
 pub loop-i-preserved : goal.loop-i-preserved
-loop-i-preserved c = ?
+loop-i-preserved c =
+    let l = c.loop-i-test.true in
+    let e = sym c.is_place.ensures in
+    elim c.if-is_place.branch [ then-is_place w ↦ rw w.held-is (mark_step c.loop-i.invariant l (e ∙ w.if-is_place.true) _ w.wide16.ensures.0) | else-is_place w ↦ rw w.held-is (mark_skip c.loop-i.invariant l (e ∙ w.if-is_place.false)) ]
 
 pub returns : goal.returns
 returns c = mark_end c.loop-i.invariant c.loop-i-test.false
