@@ -29,5 +29,11 @@ returns c =
     c.more.ensures
     c.more-2.ensures
     c.more-3.ensures
-    (elim c.if-external.branch [ then-external w ↦ rw (eq-eqb _ _ w.if-external.true) (w.numbers-is ∙ w.lowest.ensures) | else-external w ↦ rw (ne_eqb _ _ w.if-external.false) w.numbers-is ])
-    (elim c.if-external-2.branch [ then-external-2 w ↦ rw (eq-eqb _ _ w.if-external-2.true) w.numbers-is | else-external-2 w ↦ rw (ne_eqb _ _ w.if-external-2.false) w.numbers-is ])
+    (elim c.if-external.branch [
+      | then-external w ↦ rw (eq-eqb _ _ w.if-external.true) (w.numbers-is ∙ w.lowest.ensures)
+      | else-external w ↦ rw (ne_eqb _ _ w.if-external.false) w.numbers-is
+    ])
+    (elim c.if-external-2.branch [
+      | then-external-2 w ↦ rw (eq-eqb _ _ w.if-external-2.true) w.numbers-is
+      | else-external-2 w ↦ rw (ne_eqb _ _ w.if-external-2.false) w.numbers-is
+    ])

@@ -12,7 +12,10 @@ loop-i-init c = take_start _ _ _ c.requires.0.size c.requires.1
 pub loop-i-preserved : goal.loop-i-preserved
 loop-i-preserved c =
     let l = c.loop-i-test.true in
-    elim c.if-x-gone.branch [ then-x-gone w ↦ rw (w.buckets-is, w.w-is) (take_keep c.loop-i.invariant c.requires.0.size c.requires.1 l w.if-x-gone.true) | else-x-gone w ↦ rw (w.buckets-is, w.w-is) (take_skip c.loop-i.invariant c.requires.0.size c.requires.1 l w.if-x-gone.false) ]
+    elim c.if-x-gone.branch [
+      | then-x-gone w ↦ rw (w.buckets-is, w.w-is) (take_keep c.loop-i.invariant c.requires.0.size c.requires.1 l w.if-x-gone.true)
+      | else-x-gone w ↦ rw (w.buckets-is, w.w-is) (take_skip c.loop-i.invariant c.requires.0.size c.requires.1 l w.if-x-gone.false)
+    ]
 
 pub loop-w-init : goal.loop-w-init
 loop-w-init c = free_start _ _ _

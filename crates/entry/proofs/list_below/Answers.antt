@@ -17,7 +17,10 @@ pub loop-i-preserved : goal.loop-i-preserved
 loop-i-preserved c =
     let l = c.loop-i-test.true in
     let fits = c.requires.0.size in
-    elim c.if-x-lt-NONE.branch [ then-x-lt-NONE w ↦ rw (w.listed-is, w.count-is) (list_keep c.loop-i.invariant l (omega (arith, fits, c.requires.1)) (omega (arith, c.requires.1, c.requires.2)) w.if-x-lt-NONE.true _ refl) | else-x-lt-NONE w ↦ rw (w.listed-is, w.count-is) (list_pass c.loop-i.invariant l (omega (arith, fits, c.requires.1)) (omega (arith, c.requires.1, c.requires.2)) w.if-x-lt-NONE.false) ]
+    elim c.if-x-lt-NONE.branch [
+      | then-x-lt-NONE w ↦ rw (w.listed-is, w.count-is) (list_keep c.loop-i.invariant l (omega (arith, fits, c.requires.1)) (omega (arith, c.requires.1, c.requires.2)) w.if-x-lt-NONE.true _ refl)
+      | else-x-lt-NONE w ↦ rw (w.listed-is, w.count-is) (list_pass c.loop-i.invariant l (omega (arith, fits, c.requires.1)) (omega (arith, c.requires.1, c.requires.2)) w.if-x-lt-NONE.false)
+    ]
 
 pub returns : goal.returns
 returns c = list_end c.loop-i.invariant c.requires.0 _ c.requires.1 refl c.loop-i-test.false

@@ -19,14 +19,20 @@ find_row-seat-requires c = (c.requires.places_in_bounds.0, search rules)
 pub overflow_cast-member : goal.overflow_cast-member
 overflow_cast-member c =
     let l = c.loop-g-test.true in
-    elim c.if-seat-places.branch [ then-seat-places w ↦ omega (arith, w.if-seat-places.true, w.party-is, c.requires.places_bound) | else-seat-places w ↦ omega (arith, l, w.party-is, c.requires.places_bound) ]
+    elim c.if-seat-places.branch [
+      | then-seat-places w ↦ omega (arith, w.if-seat-places.true, w.party-is, c.requires.places_bound)
+      | else-seat-places w ↦ omega (arith, l, w.party-is, c.requires.places_bound)
+    ]
 
 pub loop-g-preserved : goal.loop-g-preserved
 loop-g-preserved c =
     let row = c.get_row-x.ensures in
     let found = c.find_row-seat.ensures in
     front_step c.loop-g.invariant (omega (arith, c.requires.places_bound)) c.loop-g-test.true _
-    (elim c.if-seat-places.branch [ then-seat-places w ↦ w.party-is ∙ party_seated _ _ _ _ _ _ row found w.if-seat-places.true | else-seat-places w ↦ w.party-is ∙ party_own _ _ _ _ _ _ row found w.if-seat-places.false ])
+    (elim c.if-seat-places.branch [
+      | then-seat-places w ↦ w.party-is ∙ party_seated _ _ _ _ _ _ row found w.if-seat-places.true
+      | else-seat-places w ↦ w.party-is ∙ party_own _ _ _ _ _ _ row found w.if-seat-places.false
+    ])
 
 pub returns : goal.returns
 unfolding numbered_c

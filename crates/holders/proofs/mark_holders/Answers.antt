@@ -20,7 +20,10 @@ pub loop-i-preserved : goal.loop-i-preserved
 loop-i-preserved c =
     let l = c.loop-i-test.true in
     let e = sym c.is_place.ensures in
-    elim c.if-is_place.branch [ then-is_place w ↦ rw w.held-is (mark_step c.loop-i.invariant l (e ∙ w.if-is_place.true) _ w.wide16.ensures.0) | else-is_place w ↦ rw w.held-is (mark_skip c.loop-i.invariant l (e ∙ w.if-is_place.false)) ]
+    elim c.if-is_place.branch [
+      | then-is_place w ↦ rw w.held-is (mark_step c.loop-i.invariant l (e ∙ w.if-is_place.true) _ w.wide16.ensures.0)
+      | else-is_place w ↦ rw w.held-is (mark_skip c.loop-i.invariant l (e ∙ w.if-is_place.false))
+    ]
 
 pub returns : goal.returns
 returns c = mark_end c.loop-i.invariant c.loop-i-test.false

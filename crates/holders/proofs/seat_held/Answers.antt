@@ -15,7 +15,10 @@ loop-p-init c = seat_start _ _ _
 pub loop-p-preserved : goal.loop-p-preserved
 loop-p-preserved c =
     let l = c.loop-p-test.true in
-    elim c.if-held-p-eq1.branch [ then-held-p-eq1 w ↦ rw (w.seats-is, w.w-is) (seat_stays c.loop-p.invariant l (omega arith) (ap not (eq-eqb _ _ w.if-held-p-eq1.true))) | else-held-p-eq1 w ↦ rw (w.seats-is, w.w-is) (seat_goes c.loop-p.invariant l (omega arith) (ap not (ne_eqb _ _ w.if-held-p-eq1.false))) ]
+    elim c.if-held-p-eq1.branch [
+      | then-held-p-eq1 w ↦ rw (w.seats-is, w.w-is) (seat_stays c.loop-p.invariant l (omega arith) (ap not (eq-eqb _ _ w.if-held-p-eq1.true)))
+      | else-held-p-eq1 w ↦ rw (w.seats-is, w.w-is) (seat_goes c.loop-p.invariant l (omega arith) (ap not (ne_eqb _ _ w.if-held-p-eq1.false)))
+    ]
 
 pub returns : goal.returns
 returns c = seat_end c.loop-p.invariant c.loop-p-test.false

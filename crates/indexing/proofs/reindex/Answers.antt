@@ -34,7 +34,10 @@ loop-i-preserved c =
     let p = c.requires in
     let old = c.wide8-old.ensures.0 in
     let new = c.wide8-new.ensures.0 in
-    elim c.if-old-new.branch [ then-old-new w ↦ rw (w.made-is, w.left-is, old) (move_on p v l (λ e. omega (arith, e, w.if-old-new.true, old, new)) (rw (old, new) at w.moved.ensures)) | else-old-new w ↦ rw (w.made-is, w.left-is) (move_skip p v l (omega (arith, w.if-old-new.false, old, new))) ]
+    elim c.if-old-new.branch [
+      | then-old-new w ↦ rw (w.made-is, w.left-is, old) (move_on p v l (λ e. omega (arith, e, w.if-old-new.true, old, new)) (rw (old, new) at w.moved.ensures))
+      | else-old-new w ↦ rw (w.made-is, w.left-is) (move_skip p v l (omega (arith, w.if-old-new.false, old, new)))
+    ]
 
 pub returns : goal.returns
 returns c =

@@ -22,9 +22,12 @@ pub loop-g-preserved : goal.loop-g-preserved
 loop-g-preserved c =
     let l = c.loop-g-test.true in
     let wide = c.wide16.ensures.0 in
-    elim c.if-wide16-g.branch [ then-wide16-g w ↦ group_own c.loop-g.invariant (omega (arith, c.requires.members_in_bounds)) (omega (arith, c.requires.members_in_bounds)) l _ _ (sym wide ∙ w.if-wide16-g.true) _ w.get_row-x.ensures
-    (ap (λ (x : Said). x.mark) w.said-is ∙ w.judge-said.ensures.0) (ap (λ (x : Said). x.cost) w.said-is ∙ w.judge-said.ensures.1) | else-wide16-g w ↦ group_none c.loop-g.invariant (omega (arith, c.requires.members_in_bounds)) (omega (arith, c.requires.members_in_bounds)) l _ _ (λ e. w.if-wide16-g.false (wide ∙ e))
-    (ap (λ (x : Said). x.mark) w.said-is) (ap (λ (x : Said). x.cost) w.said-is) ]
+    elim c.if-wide16-g.branch [
+      | then-wide16-g w ↦ group_own c.loop-g.invariant (omega (arith, c.requires.members_in_bounds)) (omega (arith, c.requires.members_in_bounds)) l _ _ (sym wide ∙ w.if-wide16-g.true) _ w.get_row-x.ensures
+          (ap (λ (x : Said). x.mark) w.said-is ∙ w.judge-said.ensures.0) (ap (λ (x : Said). x.cost) w.said-is ∙ w.judge-said.ensures.1)
+      | else-wide16-g w ↦ group_none c.loop-g.invariant (omega (arith, c.requires.members_in_bounds)) (omega (arith, c.requires.members_in_bounds)) l _ _ (λ e. w.if-wide16-g.false (wide ∙ e))
+          (ap (λ (x : Said). x.mark) w.said-is) (ap (λ (x : Said). x.cost) w.said-is)
+    ]
 
 pub returns : goal.returns
 returns c = group_end c.loop-g.invariant c.loop-g-test.false

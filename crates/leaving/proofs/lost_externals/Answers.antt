@@ -20,7 +20,11 @@ loop-i-preserved c =
     let v = c.loop-i.invariant in
     let l = c.loop-i-test.true in
     let h : c.args.n ≤ length c.args.owner.now = omega arith in
-    elim c.if-kind-i-eq1.branch [ then-kind-i-eq1+then-not-is_place w ↦ rw w.count-is (lose_one v l h w.if-kind-i-eq1.true (rw w.wide16.ensures.0 at (sym w.is_place.ensures) ∙ w.if-not-is_place.true)) | then-kind-i-eq1+else-not-is_place w ↦ rw w.count-is (lose_seated v l h w.if-kind-i-eq1.true (rw w.wide16.ensures.0 at (sym w.is_place.ensures) ∙ w.if-not-is_place.false)) | else-kind-i-eq1 w ↦ rw w.count-is (lose_other v l h w.if-kind-i-eq1.false) ]
+    elim c.if-kind-i-eq1.branch [
+      | then-kind-i-eq1+then-not-is_place w ↦ rw w.count-is (lose_one v l h w.if-kind-i-eq1.true (rw w.wide16.ensures.0 at (sym w.is_place.ensures) ∙ w.if-not-is_place.true))
+      | then-kind-i-eq1+else-not-is_place w ↦ rw w.count-is (lose_seated v l h w.if-kind-i-eq1.true (rw w.wide16.ensures.0 at (sym w.is_place.ensures) ∙ w.if-not-is_place.false))
+      | else-kind-i-eq1 w ↦ rw w.count-is (lose_other v l h w.if-kind-i-eq1.false)
+    ]
 
 pub returns : goal.returns
 returns c = lose_end c.loop-i.invariant c.loop-i-test.false

@@ -16,7 +16,10 @@ loop-p-preserved c =
     let l = c.loop-p-test.true in
     let row = c.get_row-x.ensures in
     let found = c.find_row.ensures in
-    elim c.if-k-find_row.branch [ then-k-find_row w ↦ rw (w.seats-is, w.w-is) (seat_stays v l (omega arith) (unnamed a.names.now a.k a.accounts.now c.loop-p.p _ _ row found w.if-k-find_row.true)) | else-k-find_row w ↦ rw (w.seats-is, w.w-is) (seat_goes v l (omega arith) (named a.names.now a.k a.accounts.now c.loop-p.p _ _ row found w.if-k-find_row.false)) ]
+    elim c.if-k-find_row.branch [
+      | then-k-find_row w ↦ rw (w.seats-is, w.w-is) (seat_stays v l (omega arith) (unnamed a.names.now a.k a.accounts.now c.loop-p.p _ _ row found w.if-k-find_row.true))
+      | else-k-find_row w ↦ rw (w.seats-is, w.w-is) (seat_goes v l (omega arith) (named a.names.now a.k a.accounts.now c.loop-p.p _ _ row found w.if-k-find_row.false))
+    ]
 
 pub returns : goal.returns
 returns c = seat_end c.loop-p.invariant c.loop-p-test.false

@@ -12,7 +12,10 @@ loop-i-init c = count_start _ _
 pub loop-i-preserved : goal.loop-i-preserved
 loop-i-preserved c =
     let l = c.loop-i-test.true in
-    elim c.if-kind-i-ne1.branch [ then-kind-i-ne1 w ↦ rw w.count-is (count_one c.loop-i.invariant l (omega arith) w.if-kind-i-ne1.true) | else-kind-i-ne1 w ↦ rw w.count-is (count_other c.loop-i.invariant l (omega arith) w.if-kind-i-ne1.false) ]
+    elim c.if-kind-i-ne1.branch [
+      | then-kind-i-ne1 w ↦ rw w.count-is (count_one c.loop-i.invariant l (omega arith) w.if-kind-i-ne1.true)
+      | else-kind-i-ne1 w ↦ rw w.count-is (count_other c.loop-i.invariant l (omega arith) w.if-kind-i-ne1.false)
+    ]
 
 pub returns : goal.returns
 returns c = count_end c.loop-i.invariant c.loop-i-test.false

@@ -12,7 +12,10 @@ loop-i-init c = count_start _ _
 pub loop-i-preserved : goal.loop-i-preserved
 loop-i-preserved c =
     let l = c.loop-i-test.true in
-    elim c.if-verdicts-i-ne0.branch [ then-verdicts-i-ne0 w ↦ rw w.count-is (count_one c.loop-i.invariant l c.requires w.if-verdicts-i-ne0.true) | else-verdicts-i-ne0 w ↦ rw w.count-is (count_other c.loop-i.invariant l c.requires w.if-verdicts-i-ne0.false) ]
+    elim c.if-verdicts-i-ne0.branch [
+      | then-verdicts-i-ne0 w ↦ rw w.count-is (count_one c.loop-i.invariant l c.requires w.if-verdicts-i-ne0.true)
+      | else-verdicts-i-ne0 w ↦ rw w.count-is (count_other c.loop-i.invariant l c.requires w.if-verdicts-i-ne0.false)
+    ]
 
 pub returns : goal.returns
 returns c = (count_end c.loop-i.invariant c.loop-i-test.false, omega (arith, c.loop-i.invariant.low, c.loop-i.invariant.within))

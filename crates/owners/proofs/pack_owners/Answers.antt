@@ -17,7 +17,10 @@ loop-i-preserved c =
     let l = c.loop-i-test.true in
     let v = c.loop-i.invariant in
     let e = ap is_place (sym (unwritten v)) ∙ sym c.is_place.ensures in
-    elim c.if-is_place.branch [ then-is_place w ↦ rw (w.owner-is, w.w-is) (pack_keep v l (omega arith) (e ∙ w.if-is_place.true)) | else-is_place w ↦ rw (w.owner-is, w.w-is) (pack_skip v l (e ∙ w.if-is_place.false)) ]
+    elim c.if-is_place.branch [
+      | then-is_place w ↦ rw (w.owner-is, w.w-is) (pack_keep v l (omega arith) (e ∙ w.if-is_place.true))
+      | else-is_place w ↦ rw (w.owner-is, w.w-is) (pack_skip v l (e ∙ w.if-is_place.false))
+    ]
 
 pub returns : goal.returns
 returns c =

@@ -18,7 +18,10 @@ loop-i-preserved c =
     let a = c.args in
     let s = count_step (λ j o. eqb o a.p) a.n c.loop-i.i a.owner.now 0 (omega arith) (omega arith) in
     let v = c.loop-i.invariant.2 in
-    elim c.if-owner-i.branch [ then-owner-i w ↦ rw w.count-is (omega arith, omega arith, omega (arith, v, rw (eq-eqb _ _ w.if-owner-i.true) at s)) | else-owner-i w ↦ rw w.count-is (omega arith, omega arith, omega (arith, v, rw (ne_eqb _ _ w.if-owner-i.false) at s)) ]
+    elim c.if-owner-i.branch [
+      | then-owner-i w ↦ rw w.count-is (omega arith, omega arith, omega (arith, v, rw (eq-eqb _ _ w.if-owner-i.true) at s))
+      | else-owner-i w ↦ rw w.count-is (omega arith, omega arith, omega (arith, v, rw (ne_eqb _ _ w.if-owner-i.false) at s))
+    ]
 
 pub returns : goal.returns
 unfolding count_i

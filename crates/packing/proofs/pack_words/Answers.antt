@@ -16,7 +16,10 @@ unfolding held
 loop-i-preserved c =
     let l = c.loop-i-test.true in
     let e = sym c.is_place.ensures in
-    elim c.if-is_place.branch [ then-is_place w ↦ rw (w.col-is, w.w-is) (pack_keep c.loop-i.invariant l (omega arith) (e ∙ w.if-is_place.true)) | else-is_place w ↦ rw (w.col-is, w.w-is) (pack_skip c.loop-i.invariant l (e ∙ w.if-is_place.false)) ]
+    elim c.if-is_place.branch [
+      | then-is_place w ↦ rw (w.col-is, w.w-is) (pack_keep c.loop-i.invariant l (omega arith) (e ∙ w.if-is_place.true))
+      | else-is_place w ↦ rw (w.col-is, w.w-is) (pack_skip c.loop-i.invariant l (e ∙ w.if-is_place.false))
+    ]
 
 pub returns : goal.returns
 returns c =

@@ -14,7 +14,10 @@ pub loop-i-preserved : goal.loop-i-preserved
 loop-i-preserved c =
     let e = c.droppable.ensures in
     front_step c.loop-i.invariant (omega (arith, c.requires.2, c.requires.3)) c.loop-i-test.true _
-    (elim c.if-droppable.branch [ then-droppable w ↦ w.class-is ∙ rw (sym e ∙ w.if-droppable.true) | else-droppable w ↦ w.class-is ∙ rw (sym e ∙ w.if-droppable.false) ])
+    (elim c.if-droppable.branch [
+      | then-droppable w ↦ w.class-is ∙ rw (sym e ∙ w.if-droppable.true)
+      | else-droppable w ↦ w.class-is ∙ rw (sym e ∙ w.if-droppable.false)
+    ])
 
 pub returns : goal.returns
 unfolding classes_c

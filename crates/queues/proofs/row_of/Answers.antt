@@ -16,7 +16,10 @@ pub loop-i-preserved : goal.loop-i-preserved
 loop-i-preserved c =
     let l : c.loop-i.i < c.args.n = omega arith in
     let h : c.loop-i.i < length c.args.owner.now = omega arith in
-    elim c.if-owner-i.branch [ then-owner-i+else-behind-eq0 w ↦ rw w.behind-is (seek_passed c.loop-i.invariant l h w.if-owner-i.true w.if-behind-eq0.false) | else-owner-i w ↦ rw w.behind-is (seek_other c.loop-i.invariant l h w.if-owner-i.false) ]
+    elim c.if-owner-i.branch [
+      | then-owner-i+else-behind-eq0 w ↦ rw w.behind-is (seek_passed c.loop-i.invariant l h w.if-owner-i.true w.if-behind-eq0.false)
+      | else-owner-i w ↦ rw w.behind-is (seek_other c.loop-i.invariant l h w.if-owner-i.false)
+    ]
 
 pub returns : goal.returns
 returns c = seek_end c.loop-i.invariant (omega arith)

@@ -19,7 +19,10 @@ pub loop-i-preserved : goal.loop-i-preserved
 loop-i-preserved c =
     let l : c.loop-i.i < c.args.n = omega arith in
     let h : c.loop-i.i < length c.args.home.now = omega arith in
-    elim c.if-wide8-position.branch [ then-wide8-position+else-behind-eq0 w ↦ rw w.behind-is (seek_passed c.loop-i.invariant l h (sym c.wide8.ensures.0 ∙ w.if-wide8-position.true) w.if-behind-eq0.false) | else-wide8-position w ↦ rw w.behind-is (seek_other c.loop-i.invariant l h (λ e. w.if-wide8-position.false (c.wide8.ensures.0 ∙ e))) ]
+    elim c.if-wide8-position.branch [
+      | then-wide8-position+else-behind-eq0 w ↦ rw w.behind-is (seek_passed c.loop-i.invariant l h (sym c.wide8.ensures.0 ∙ w.if-wide8-position.true) w.if-behind-eq0.false)
+      | else-wide8-position w ↦ rw w.behind-is (seek_other c.loop-i.invariant l h (λ e. w.if-wide8-position.false (c.wide8.ensures.0 ∙ e)))
+    ]
 
 pub returns : goal.returns
 returns c = seek_end c.loop-i.invariant (omega arith)

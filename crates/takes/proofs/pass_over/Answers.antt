@@ -20,7 +20,10 @@ pub loop-i-preserved : goal.loop-i-preserved
 loop-i-preserved c =
     let here = c.loop-i-test.true in
     let f = sym c.lapsed.ensures in
-    elim c.if-lapsed.branch [ then-lapsed w ↦ rw w.owner-is (pass_drops c.requires.rows_bound.0 c.requires.linked.1 c.loop-i.invariant here c.next_of-i.ensures (f ∙ w.if-lapsed.true)) | else-lapsed w ↦ rw w.owner-is (pass_stays c.requires.rows_bound.0 c.requires.linked.1 c.loop-i.invariant here c.next_of-i.ensures (f ∙ w.if-lapsed.false)) ]
+    elim c.if-lapsed.branch [
+      | then-lapsed w ↦ rw w.owner-is (pass_drops c.requires.rows_bound.0 c.requires.linked.1 c.loop-i.invariant here c.next_of-i.ensures (f ∙ w.if-lapsed.true))
+      | else-lapsed w ↦ rw w.owner-is (pass_stays c.requires.rows_bound.0 c.requires.linked.1 c.loop-i.invariant here c.next_of-i.ensures (f ∙ w.if-lapsed.false))
+    ]
 
 pub returns : goal.returns
 returns c =

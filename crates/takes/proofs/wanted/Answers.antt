@@ -30,7 +30,10 @@ loop-i-preserved c =
     let here = c.loop-i-test.true in
     let more : c.loop-i.count < c.args.height - c.args.held = omega (arith, c.if-room-count.false) in
     let f = sym c.wide16.ensures.0 in
-    elim c.if-wide16-place.branch [ then-wide16-place w ↦ rw w.count-is (count_one (omega (arith, c.requires.rows_bound)) c.requires.linked.1 c.loop-i.invariant here more c.next_of-i.ensures (f ∙ w.if-wide16-place.true)) | else-wide16-place w ↦ rw w.count-is (count_past (omega (arith, c.requires.rows_bound)) c.requires.linked.1 c.loop-i.invariant here more c.next_of-i.ensures (λ e. w.if-wide16-place.false (sym f ∙ e))) ]
+    elim c.if-wide16-place.branch [
+      | then-wide16-place w ↦ rw w.count-is (count_one (omega (arith, c.requires.rows_bound)) c.requires.linked.1 c.loop-i.invariant here more c.next_of-i.ensures (f ∙ w.if-wide16-place.true))
+      | else-wide16-place w ↦ rw w.count-is (count_past (omega (arith, c.requires.rows_bound)) c.requires.linked.1 c.loop-i.invariant here more c.next_of-i.ensures (λ e. w.if-wide16-place.false (sym f ∙ e)))
+    ]
 
 pub returns : goal.returns
 returns c =
