@@ -5,42 +5,44 @@
 
 ghost use Rattle.std.specs.Prelude.{◌≤◌, length};
 
+use std::io;
+use std::io::Stdout;
+
 mod frame;
 
 // Writes the line in front of a sheet, and the sheet's answer.
-fn one(head: &[u8], sheet: &[u8], out: &mut [u8])
+fn one(stdout: Stdout, head: &[u8], sheet: &[u8], out: &mut [u8]) -> io::Result<()>
     requires { 42030 ≤ length out.old }
 {
     let size = sheets::answer(sheet, out);
-    io::write_all(libc::STDOUT_FILENO, head);
-    io::write_all(libc::STDOUT_FILENO, &out[..size]);
+    stdout.write_all(head)?;
+    stdout.write_all(&out[..size])
 }
 
 // Answers every sheet.
-fn all(text: &[u8], out: &mut [u8])
+fn all(stdout: Stdout, text: &[u8], out: &mut [u8]) -> io::Result<()>
     requires { 42030 ≤ length out.old }
 {
     let mut at: usize = 0;
     while at < text.len() {
         let f = frame::next(text, at);
         if !f.found {
-            io::write_all(libc::STDOUT_FILENO, b"no sheet here\n");
-            return;
+            return stdout.write_all(b"no sheet here\n");
         }
         let from = f.from;
         let to = f.to;
-        one(&text[at..from], &text[from..to], out);
+        one(stdout, &text[at..from], &text[from..to], out)?;
         at = to;
     }
+    Ok(())
 }
 
-fn main() {
-    let mut text = io::large_buffer();
-    let n = io::read_full(libc::STDIN_FILENO, &mut text);
+fn main(rt: HostRuntime) -> io::Result<()> {
+    let mut text = [0u8; 65536];
+    let n = reading::full(&mut rt.stdin(), &mut text)?;
     if 65535 < n {
-        io::write_all(libc::STDOUT_FILENO, b"too many sheets\n");
-        return;
+        return rt.stdout().write_all(b"too many sheets\n");
     }
-    let mut out = io::large_buffer();
-    all(&text[..n], &mut out);
+    let mut out = [0u8; 65536];
+    all(rt.stdout(), &text[..n], &mut out)
 }

@@ -11,6 +11,7 @@ use intake::orders::{Course, Task};
 use lintelsong::Buffer;
 use scenario::commands::Command;
 use scenario::replies::Reply;
+use std::io::{Stdin, Stdout};
 
 // Line by line, to the end of the input, to the first line that is no command, or until a write fails. The buffer, the tray and the shelf
 // stay here, by value: each command takes what it goes to, and gives it back.
@@ -65,6 +66,8 @@ fn lines(
 
 // The whole run, and what waits on the page at its end.
 fn run(
+    from: Stdin,
+    to: Stdout,
     chunk: &mut [u8],
     line: &mut [u8],
     numbers: &mut [u64],
@@ -84,12 +87,12 @@ fn run(
         desk::buffer::fresh(),
         desk::tray::fresh(),
         desk::shelf::fresh(),
-        intake::orders::fresh(),
+        intake::orders::fresh(from, to),
     );
     pages::out::flush(page, end.pen);
 }
 
-fn main() {
+fn main(rt: HostRuntime) {
     let mut chunk = [0u8; 65536];
     let mut line = [0u8; 65537];
     let mut numbers = [0u64; 32768];
@@ -97,6 +100,8 @@ fn main() {
     let mut lts = [0u64; 2048];
     let mut hashes = [0u8; 65536];
     run(
+        rt.stdin(),
+        rt.stdout(),
         &mut chunk,
         &mut line,
         &mut numbers,

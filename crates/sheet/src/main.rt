@@ -3,6 +3,8 @@
 
 ghost use Rattle.std.specs.Prelude.{◌≡◌, length};
 
+use std::io;
+
 // Room for the longest sheet and one byte.
 fn room() -> [u8; 16385]
     ensures { 16385 ≡ length result }
@@ -10,10 +12,10 @@ fn room() -> [u8; 16385]
     [0u8; 16385]
 }
 
-fn main() {
+fn main(rt: HostRuntime) -> io::Result<()> {
     let mut text = room();
-    let n = io::read_full(libc::STDIN_FILENO, &mut text);
-    let mut out = io::large_buffer();
+    let n = reading::full(&mut rt.stdin(), &mut text)?;
+    let mut out = [0u8; 65536];
     let size = sheets::answer(&text[..n], &mut out);
-    io::write_all(libc::STDOUT_FILENO, &out[..size]);
+    rt.stdout().write_all(&out[..size])
 }

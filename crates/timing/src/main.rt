@@ -14,6 +14,8 @@ use fill_answer::Asked;
 use lintelsong::fill_calls::FillAnswer;
 use lintelsong::{Buffer, Group, Skipped};
 use message::Filter;
+use std::io;
+use std::io::Stdout;
 use wish::Wish;
 
 // Sums over all fills, each held at 2^64 - 1.
@@ -89,28 +91,36 @@ fn run(full: Buffer, asked: Asked, repeats: u64, lts: &mut [u64], hashes: &mut [
 }
 
 // Prints a number and a byte behind it.
-fn put(n: u64, behind: &[u8]) {
-    io::print_decimal(libc::STDOUT_FILENO, n);
-    io::write_all(libc::STDOUT_FILENO, behind);
+fn put(stdout: Stdout, n: u64, behind: &[u8]) -> io::Result<()> {
+    let mut digits = [0u8; 20];
+    let many = words::decimal::write(n, &mut digits);
+    stdout.write_all(&digits[..many])?;
+    stdout.write_all(behind)
 }
 
 // Prints the sums over all fills.
-fn show_sums(s: Sums) {
-    put(s.collected, b" ");
-    put(s.operations, b" ");
-    put(s.dropped, b" ");
+fn show_sums(stdout: Stdout, s: Sums) -> io::Result<()> {
+    put(stdout, s.collected, b" ")?;
+    put(stdout, s.operations, b" ")?;
+    put(stdout, s.dropped, b" ")
 }
 
 // Prints what the last fill left in the buffer and in the group.
-fn show_left(left: u64, slots: u64, accounts: u64, messages: u64) {
-    put(left, b" ");
-    put(slots, b" ");
-    put(accounts, b" ");
-    put(messages, b"\n");
+fn show_left(
+    stdout: Stdout,
+    left: u64,
+    slots: u64,
+    accounts: u64,
+    messages: u64,
+) -> io::Result<()> {
+    put(stdout, left, b" ")?;
+    put(stdout, slots, b" ")?;
+    put(stdout, accounts, b" ")?;
+    put(stdout, messages, b"\n")
 }
 
 // Prints the line.
-fn show(r: Told)
+fn show(stdout: Stdout, r: Told) -> io::Result<()>
     requires { GoodAnswer r.last }
 {
     let last = r.last;
@@ -118,8 +128,8 @@ fn show(r: Told)
     let group = last.group;
     let left = buffer.counts();
     let got = group.counts();
-    show_sums(r.sums);
-    show_left(left.messages, got.slots, got.accounts, got.messages);
+    show_sums(stdout, r.sums)?;
+    show_left(stdout, left.messages, got.slots, got.accounts, got.messages)
 }
 
 // Room for the key list, one row a message.
@@ -135,12 +145,12 @@ fn hash_room() -> [u8; 32768]
     [0u8; 32768]
 }
 
-fn main() {
-    let mut line = io::buffer();
-    let n = io::read_full(libc::STDIN_FILENO, &mut line);
+fn main(rt: HostRuntime) -> io::Result<()> {
+    let mut line = [0u8; 4096];
+    let n = reading::full(&mut rt.stdin(), &mut line)?;
     let w = wish::read(&line[..n]);
     let mut lts = lt_room();
     let mut hashes = hash_room();
     let r = run(load::full(), asked_by(w), w.repeats, &mut lts, &mut hashes);
-    show(r);
+    show(rt.stdout(), r)
 }

@@ -23,7 +23,7 @@ kept c =
 
 line_kept : (c : goal.Joined-command) → length c.match-command.line ≡ length c.loop-b.line
 line_kept c =
-    let k = c.take-next.auto.1.1.1.0 in
+    let k = c.take-next.auto.line in
     ⊎_elim (λ w. ap length w.6 ∙ k)
     (⊎_elim (λ w. ap length w.10 ∙ k)
     (⊎_elim (λ w. ap length w.5 ∙ k) (⊎_elim (λ w. ap length w.13 ∙ k) (λ w. ap length w.7 ∙ w.4.kept.1.1.1.0 ∙ k))))
@@ -91,10 +91,10 @@ loop-b-preserved-in-Do c =
     let r = kept c.before.before.before.before.before.before.before.before in (
       r.ready,
       omega (arith, c.with_pen-c.ensures.1, k.ensures.within),
-      k.auto.1.1.0 ∙ v.2,
+      k.auto.chunk ∙ v.2,
       line_kept c.before.before.before.before.before.before.before.before ∙ v.3,
-      k.auto.1.1.1.1.0 ∙ v.4,
-      c.told-pen.auto.0 ∙ k.auto.1.1.1.1.1.0 ∙ v.5,
+      k.auto.numbers ∙ v.4,
+      c.told-pen.auto.page ∙ k.auto.page ∙ v.5,
       r.lts_kept ∙ v.6,
       r.hashes_kept ∙ v.7,
     )
@@ -111,10 +111,10 @@ loop-b-preserved c =
     let v = c.loop-b.invariant in (
       v.0,
       k.ensures.within,
-      k.auto.1.1.0 ∙ v.2,
-      k.auto.1.1.1.0 ∙ v.3,
-      k.auto.1.1.1.1.0 ∙ v.4,
-      k.auto.1.1.1.1.1.0 ∙ v.5,
+      k.auto.chunk ∙ v.2,
+      k.auto.line ∙ v.3,
+      k.auto.numbers ∙ v.4,
+      k.auto.page ∙ v.5,
       v.6,
       v.7,
     )

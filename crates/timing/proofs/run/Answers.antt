@@ -21,13 +21,13 @@ loop-left-smaller c = omega (arith, c.loop-left-test.true)
 pub loop-left-preserved : goal.loop-left-preserved
 loop-left-preserved c =
     let v = c.loop-left.invariant in
-    (c.fill-last-in-loop-left.ensures, c.fill-last-in-loop-left.auto.1.1.0 ∙ v.1, c.fill-last-in-loop-left.auto.1.1.1.0 ∙ v.2)
+    (c.fill-last-in-loop-left.ensures, c.fill-last-in-loop-left.auto.lts ∙ v.1, c.fill-last-in-loop-left.auto.hashes ∙ v.2)
 
 pub shape_of-lts : goal.shape_of-lts
-shape_of-lts c = c.loop-left.invariant.1 ∙ c.fill-last.auto.1.1.0
+shape_of-lts c = c.loop-left.invariant.1 ∙ c.fill-last.auto.lts
 
 pub shape_of-hashes : goal.shape_of-hashes
-shape_of-hashes c = c.loop-left.invariant.2 ∙ c.fill-last.auto.1.1.1.0
+shape_of-hashes c = c.loop-left.invariant.2 ∙ c.fill-last.auto.hashes
 
 pub returns : goal.returns
 returns c = c.loop-left.invariant.0

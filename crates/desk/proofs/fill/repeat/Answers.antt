@@ -17,10 +17,10 @@ pub number_of-requires : goal.number_of-requires
 number_of-requires c = tt
 
 pub shape_of-lts : goal.shape_of-lts
-shape_of-lts c = c.repeated-a.auto.1.1.1.1.1.0
+shape_of-lts c = c.repeated-a.auto.lts
 
 pub shape_of-hashes : goal.shape_of-hashes
-shape_of-hashes c = c.repeated-a.auto.1.1.1.1.1.1.0
+shape_of-hashes c = c.repeated-a.auto.hashes
 
 pub returns : goal.returns
 returns c = (c.repeated-a.ensures.0, c.with_group.ensures, c.with_set.ensures)

@@ -11,7 +11,7 @@ pub loop-count-init : goal.loop-count-init
 loop-count-init c =
     let d = c.once-a in
     let k = c.requires.3 in
-    (d.ensures, d.auto.1.1.1.1.1.0 ∙ k.lts_long, d.auto.1.1.1.1.1.1.0 ∙ k.hashes_long)
+    (d.ensures, d.auto.lts ∙ k.lts_long, d.auto.hashes ∙ k.hashes_long)
 
 pub once-a-requires-in-loop-count : goal.once-a-requires-in-loop-count
 once-a-requires-in-loop-count c =
@@ -27,7 +27,7 @@ pub loop-count-preserved : goal.loop-count-preserved
 loop-count-preserved c =
     let d = c.once-a-in-loop-count in
     let v = c.loop-count.invariant in
-    (d.ensures, d.auto.1.1.1.1.1.0 ∙ v.1, d.auto.1.1.1.1.1.1.0 ∙ v.2)
+    (d.ensures, d.auto.lts ∙ v.1, d.auto.hashes ∙ v.2)
 
 pub shape_of-lts : goal.shape_of-lts
 shape_of-lts c = c.loop-count.invariant.1 ∙ sym c.requires.3.lts_long

@@ -16,7 +16,7 @@ put_row-requires c = (
 )
 
 pub loop-i-preserved : goal.loop-i-preserved
-loop-i-preserved c = c.put_row.auto.0 ∙ c.loop-i.invariant
+loop-i-preserved c = c.put_row.auto.col ∙ c.loop-i.invariant
 
 pub shape_of-names : goal.shape_of-names
 shape_of-names c = c.loop-i.invariant

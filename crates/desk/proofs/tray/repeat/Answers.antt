@@ -12,8 +12,8 @@ obey-after-requires c = let v = c.loop-count.invariant in (v.0, v.1)
 pub loop-count-preserved : goal.loop-count-preserved
 loop-count-preserved c =
     let v = c.loop-count.invariant in
-    let l = c.obey-after.auto.1.1.0 in
-    let h = c.obey-after.auto.1.1.1.0 in
+    let l = c.obey-after.auto.lts in
+    let h = c.obey-after.auto.hashes in
     (c.obey-after.ensures, record { lts_long = l ∙ v.1.lts_long; hashes_long = h ∙ v.1.hashes_long }, l ∙ v.2, h ∙ v.3)
 
 pub shape_of-lts : goal.shape_of-lts

@@ -9,7 +9,7 @@ returns c =
     let t = c.requires in
     record {
       set = t.set;
-      names_long = c.put_row.auto.0 ∙ t.names_long;
+      names_long = c.put_row.auto.col ∙ t.names_long;
       verdicts_long = simp length-set t.verdicts_long;
       costs_long = simp length-set t.costs_long;
       few = omega (arith, c.if-i-ge300.false);

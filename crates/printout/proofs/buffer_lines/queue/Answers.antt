@@ -16,7 +16,7 @@ pub spaced-p-requires : goal.spaced-p-requires
 spaced-p-requires c = tt
 
 pub loop-i-preserved : goal.loop-i-preserved
-loop-i-preserved c = c.spaced-p.auto.0 ∙ c.loop-i.invariant
+loop-i-preserved c = c.spaced-p.auto.page ∙ c.loop-i.invariant
 
 pub shape_of-page : goal.shape_of-page
 shape_of-page c = c.loop-i.invariant

@@ -16,7 +16,7 @@ pub queue_line-p-requires : goal.queue_line-p-requires
 queue_line-p-requires c = c.requires
 
 pub loop-place-preserved : goal.loop-place-preserved
-loop-place-preserved c = c.queue_line-p.auto.0 ∙ c.loop-place.invariant
+loop-place-preserved c = c.queue_line-p.auto.page ∙ c.loop-place.invariant
 
 pub shape_of-page : goal.shape_of-page
 shape_of-page c = c.loop-place.invariant

@@ -12,7 +12,7 @@ pub loop-i-preserved : goal.loop-i-preserved
 loop-i-preserved c =
     let q = c.put_row in (
       omega (arith, c.loop-i-test.true),
-      q.auto.0 ∙ c.loop-i.invariant.1,
+      q.auto.col ∙ c.loop-i.invariant.1,
       rw q.ensures (name_more c.args.cells.now c.loop-i.names _ c.loop-i.i (c.loop-i.invariant.1 ∙ c.requires.2) (omega (arith, c.loop-i-test.true, c.requires.1)) c.name_of-name.ensures c.loop-i.invariant.2),
     )
 

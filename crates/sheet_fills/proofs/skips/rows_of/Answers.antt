@@ -13,9 +13,9 @@ returns c =
     record {
       good = record {
         few = c.requires.1;
-        names_long = n.auto.1.1.0 ∙ length-replicate {A = ℕ} 2048 0;
-        verdicts_long = v.auto.1.1.0 ∙ length-replicate {A = ℕ} 64 0;
-        costs_long = k.auto.1.1.0 ∙ length-replicate {A = ℕ} 64 0;
+        names_long = n.auto.names ∙ length-replicate {A = ℕ} 2048 0;
+        verdicts_long = v.auto.verdicts ∙ length-replicate {A = ℕ} 64 0;
+        costs_long = k.auto.costs ∙ length-replicate {A = ℕ} 64 0;
       };
-      same = rows_same c.args.cells.now (record { count = c.args.n; names = n.new.1.1.0; verdicts = v.new.1.1.0; costs = k.new.1.1.0 }) n.ensures v.ensures k.ensures;
+      same = rows_same c.args.cells.now (record { count = c.args.n; names = n.new.names; verdicts = v.new.verdicts; costs = k.new.costs }) n.ensures v.ensures k.ensures;
     }
