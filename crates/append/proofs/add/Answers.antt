@@ -3,7 +3,7 @@
 use mathlib.Core.Path.{sym, ◌∙◌}
 use borrow.Author.Rules.{rules}
 use Rattle.queues.proofs.Indexing.{sought}
-use Rattle.append.proofs.AddSteps.{Decided, writable, seatable, countable, refused, taken}
+use Rattle.append.proofs.AddSteps.{writable, seatable, countable, refused, taken}
 use Rattle.append.proofs.add.Goals as goal
 
 pub find-seat-requires : goal.find-seat-requires
