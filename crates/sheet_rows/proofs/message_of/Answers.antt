@@ -8,5 +8,6 @@ returns c =
     let a = c.args in
     message_made a.cells.now a.i
     (elim c.if-cells-row-eq0.branch [
-      then-cells-row-eq0 w ↦ flag_0 w.if-cells-row-eq0.true w.kind-is | else-cells-row-eq0 w ↦ flag_1 w.if-cells-row-eq0.false w.kind-is
+      | then-cells-row-eq0 w ↦ flag_0 w.if-cells-row-eq0.true w.kind-is
+      | else-cells-row-eq0 w ↦ flag_1 w.if-cells-row-eq0.false w.kind-is
     ]) c.name_of-address.ensures c.name_of-hash.ensures

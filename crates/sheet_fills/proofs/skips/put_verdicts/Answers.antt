@@ -19,9 +19,10 @@ loop-i-preserved c =
       omega (arith, c.loop-i-test.true),
       simp length-set c.loop-i.invariant.1,
       cell_more (λ j. cond (eqb (get_or a.cells.now (3 * j + 1) 0) 0) 0 1) c.loop-i.verdicts c.loop-i.i _ (omega (arith, c.loop-i.invariant.1, c.requires.1, c.loop-i-test.true))
-      (elim c.if-cells-i-eq0.branch [
-        then-cells-i-eq0 w ↦ flag_0 w.if-cells-i-eq0.true w.verdicts-is | else-cells-i-eq0 w ↦ flag_1 w.if-cells-i-eq0.false w.verdicts-is
-      ]) c.loop-i.invariant.2,
+          (elim c.if-cells-i-eq0.branch [
+            | then-cells-i-eq0 w ↦ flag_0 w.if-cells-i-eq0.true w.verdicts-is
+            | else-cells-i-eq0 w ↦ flag_1 w.if-cells-i-eq0.false w.verdicts-is
+          ]) c.loop-i.invariant.2,
     )
 
 pub shape_of-verdicts : goal.shape_of-verdicts
