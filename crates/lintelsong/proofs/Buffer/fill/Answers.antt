@@ -4,4 +4,4 @@ use Rattle.lintelsong.proofs.Buffer.fill.Goals as goal
 pub returns : goal.returns
 returns c =
     let f = c.fill-f.ensures in
-    (f, f.demand3)
+    record { fills = f; meets_demand3 = f.demand3 }
