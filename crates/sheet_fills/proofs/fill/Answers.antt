@@ -12,4 +12,4 @@ slice_bounds-fill-end c = let p = c.requires.3 in sym (length-take-le _ _ (omega
 
 pub returns : goal.returns
 returns c =
-    fills_by c.args.rows c.requires.3 c.args.asked c.args.b c.args.g c.args.s _ _ (length-replicate {A = ℕ} 256 0) (length-replicate {A = ℕ} 8192 0) keys_fresh _ _ c.fill.ensures.0
+    fills_by c.args.rows c.requires.3 c.args.asked c.args.b c.args.g c.args.s _ _ (length-replicate {A = ℕ} 256 0) (length-replicate {A = ℕ} 8192 0) keys_fresh _ _ c.fill.ensures.fills

@@ -11,18 +11,18 @@ use Rattle.sheet_fills.proofs.put.Goals as goal
 pub overflow_add-one : goal.overflow_add-one
 overflow_add-one c =
     let p = c.put_fill-one.ensures in
-    let s = puts_shown (meant (table_of c.args.f.group)) c.put_fill-one.new.0 c.put_fill-one.result (omega (arith, p.near, p.long, c.requires.1)) c.display-size.ensures in
+    let s = puts_shown (meant (table_of c.args.f.group)) c.put_fill-one.new.out c.put_fill-one.result (omega (arith, p.near, p.long, c.requires.1)) c.display-size.ensures in
     omega (arith, s.near, p.near, c.requires.1)
 
 pub end_line-requires : goal.end_line-requires
 end_line-requires c =
     let p = c.put_fill-one.ensures in
-    let s = puts_shown (meant (table_of c.args.f.group)) c.put_fill-one.new.0 c.put_fill-one.result (omega (arith, p.near, p.long, c.requires.1)) c.display-size.ensures in
+    let s = puts_shown (meant (table_of c.args.f.group)) c.put_fill-one.new.out c.put_fill-one.result (omega (arith, p.near, p.long, c.requires.1)) c.display-size.ensures in
     omega (arith, s.near, s.long, p.near, p.long, c.requires.1)
 
 pub returns : goal.returns
 unfolding fill_lines
 returns c =
     let p = c.put_fill-one.ensures in
-    let s = puts_shown (meant (table_of c.args.f.group)) c.put_fill-one.new.0 c.put_fill-one.result (omega (arith, p.near, p.long, c.requires.1)) c.display-size.ensures in
+    let s = puts_shown (meant (table_of c.args.f.group)) c.put_fill-one.new.out c.put_fill-one.result (omega (arith, p.near, p.long, c.requires.1)) c.display-size.ensures in
     puts_then (rw (c.wide8-c.ensures.0 ∙ c.number_of.ensures) at p) (puts_then s c.end_line.ensures)
