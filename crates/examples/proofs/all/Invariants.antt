@@ -5,7 +5,7 @@ use lib.ListN.{length}
 use Rattle.examples.proofs.all.Given as goal
 
 abbrev pub invariant-loop-at : goal.invariant-loop-at
-invariant-loop-at l = (at ≤ length l.text) × (length l.at ≡ length l.initial.out)
+invariant-loop-at l = (l.at ≤ length l.text) × (length l.out ≡ length l.initial.out)
 
 abbrev pub decreases-loop-at : goal.decreases-loop-at
-decreases-loop-at l = length l.text - at
+decreases-loop-at l = length l.text - l.at

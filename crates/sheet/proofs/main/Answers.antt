@@ -7,4 +7,4 @@ use Rattle.sheet.proofs.main.Goals as goal
 pub slice_bounds-write_all-end : goal.slice_bounds-write_all-end
 slice_bounds-write_all-end c =
     let a = c.answer-size.ensures in
-    sym (length-take-le _ _ (omega (arith, a.near, a.long, c.large_buffer-out.ensures)))
+    sym (length-take-le _ _ (omega (arith, a.near, a.long)))
