@@ -52,7 +52,8 @@ pub fn list_below(buckets: [u32; 1088], height: usize, listed: &mut [u16; 1024])
     let mut count: usize = 0;
     while i < top {
         let x = buckets[i];
-        if x < buckets::NONE {
+        let entry = x < buckets::NONE;
+        if entry {
             listed[count] = x as u16;
             count += 1;
         }

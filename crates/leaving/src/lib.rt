@@ -20,7 +20,8 @@ pub fn seat_unnamed(
     let mut w: usize = 0;
     while p < a {
         let x = rows::get_row(accounts, p);
-        if k <= rows::find_row(names, k, &x) {
+        let stays = k <= rows::find_row(names, k, &x);
+        if stays {
             seats[p] = w as u16;
             w += 1;
         }
@@ -37,7 +38,8 @@ pub fn lost_externals(owner: &[u16; 2048], kind: &[u8; 2048], n: usize, seats: &
     let mut count: usize = 0;
     let mut i: usize = 0;
     while i < n {
-        if kind[i] == 1 {
+        let external = kind[i] == 1;
+        if external {
             if !packing::is_place(seats[numbers::wide16(owner[i])]) {
                 count += 1;
             }

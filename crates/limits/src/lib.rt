@@ -52,7 +52,8 @@ fn skips(verdicts: &[u8], n: usize) -> usize
     let mut i: usize = 0;
     let mut count: usize = 0;
     while i < n {
-        if verdicts[i] != 0 {
+        let skip = verdicts[i] != 0;
+        if skip {
             count += 1;
         }
         i += 1;

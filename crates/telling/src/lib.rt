@@ -24,7 +24,8 @@ pub fn keys(
     let mut w: usize = 0;
     while k < n {
         let row = numbers::wide16(rows[k]);
-        if kind[row] != 1 {
+        let internal = kind[row] != 1;
+        if internal {
             let x: u64 = time[row];
             lts[w] = x;
             let h = rows::get_row(hash, row);

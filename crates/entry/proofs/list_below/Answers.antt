@@ -5,21 +5,21 @@ use Prim.Native.Nat.{◌-◌}
 use native.Mathlib.Omega.{arith}
 use Rattle.entry.proofs.Listing.{list_start, list_end, list_pass, list_keep}
 use Rattle.entry.proofs.list_below.Goals as goal
-use Rattle.entry.proofs.list_below.Goals.{else-x-lt-NONE, then-x-lt-NONE}
+use Rattle.entry.proofs.list_below.Goals.{else-entry, then-entry}
 
 pub loop-i-init : goal.loop-i-init
 loop-i-init c = list_start _ _ _
 
 pub overflow_cast-listed : goal.overflow_cast-listed
-overflow_cast-listed c = omega (arith, c.if-x-lt-NONE.true)
+overflow_cast-listed c = omega (arith, c.if-entry.true)
 
 pub loop-i-preserved : goal.loop-i-preserved
 loop-i-preserved c =
     let l = c.loop-i-test.true in
     let fits = c.requires.0.size in
-    elim c.if-x-lt-NONE.branch [
-      | then-x-lt-NONE w ↦ rw (w.listed-is, w.count-is) (list_keep c.loop-i.invariant l (omega (arith, fits, c.requires.1)) (omega (arith, c.requires.1, c.requires.2)) w.if-x-lt-NONE.true _ refl)
-      | else-x-lt-NONE w ↦ rw (w.listed-is, w.count-is) (list_pass c.loop-i.invariant l (omega (arith, fits, c.requires.1)) (omega (arith, c.requires.1, c.requires.2)) w.if-x-lt-NONE.false)
+    elim c.if-entry.branch [
+      | then-entry w ↦ rw (w.listed-is, w.count-is) (list_keep c.loop-i.invariant l (omega (arith, fits, c.requires.1)) (omega (arith, c.requires.1, c.requires.2)) w.if-entry.true _ refl)
+      | else-entry w ↦ rw (w.listed-is, w.count-is) (list_pass c.loop-i.invariant l (omega (arith, fits, c.requires.1)) (omega (arith, c.requires.1, c.requires.2)) w.if-entry.false)
     ]
 
 pub returns : goal.returns

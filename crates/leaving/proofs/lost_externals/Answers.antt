@@ -6,7 +6,7 @@ use Prim.Native.Nat.{◌-◌, ◌≤◌}
 use native.Mathlib.Omega.{arith}
 use Rattle.leaving.proofs.Seating.{lose_start, lose_end, lose_one, lose_seated, lose_other}
 use Rattle.leaving.proofs.lost_externals.Goals as goal
-use Rattle.leaving.proofs.lost_externals.Goals.{else-kind-i-eq1, then-kind-i-eq1+else-not-is_place, then-kind-i-eq1+then-not-is_place}
+use Rattle.leaving.proofs.lost_externals.Goals.{else-external, then-external+else-not-is_place, then-external+then-not-is_place}
 
 pub loop-i-init : goal.loop-i-init
 loop-i-init c = lose_start _ _ _ _
@@ -20,10 +20,10 @@ loop-i-preserved c =
     let v = c.loop-i.invariant in
     let l = c.loop-i-test.true in
     let h : c.args.n ≤ length c.args.owner.now = omega arith in
-    elim c.if-kind-i-eq1.branch [
-      | then-kind-i-eq1+then-not-is_place w ↦ rw w.count-is (lose_one v l h w.if-kind-i-eq1.true (rw w.wide16.ensures.0 at (sym w.is_place.ensures) ∙ w.if-not-is_place.true))
-      | then-kind-i-eq1+else-not-is_place w ↦ rw w.count-is (lose_seated v l h w.if-kind-i-eq1.true (rw w.wide16.ensures.0 at (sym w.is_place.ensures) ∙ w.if-not-is_place.false))
-      | else-kind-i-eq1 w ↦ rw w.count-is (lose_other v l h w.if-kind-i-eq1.false)
+    elim c.if-external.branch [
+      | then-external+then-not-is_place w ↦ rw w.count-is (lose_one v l h w.if-external.true (rw w.wide16.ensures.0 at (sym w.is_place.ensures) ∙ w.if-not-is_place.true))
+      | then-external+else-not-is_place w ↦ rw w.count-is (lose_seated v l h w.if-external.true (rw w.wide16.ensures.0 at (sym w.is_place.ensures) ∙ w.if-not-is_place.false))
+      | else-external w ↦ rw w.count-is (lose_other v l h w.if-external.false)
     ]
 
 pub returns : goal.returns

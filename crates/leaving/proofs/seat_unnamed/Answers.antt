@@ -4,7 +4,7 @@ use native.Mathlib.Omega.{arith}
 use Prim.Native.Nat.{◌-◌}
 use Rattle.leaving.proofs.Seating.{seat_start, seat_end, seat_stays, seat_goes, named, unnamed}
 use Rattle.leaving.proofs.seat_unnamed.Goals as goal
-use Rattle.leaving.proofs.seat_unnamed.Goals.{else-k-find_row, then-k-find_row}
+use Rattle.leaving.proofs.seat_unnamed.Goals.{else-stays, then-stays}
 
 pub loop-p-init : goal.loop-p-init
 loop-p-init c = seat_start _ _ _
@@ -16,9 +16,9 @@ loop-p-preserved c =
     let l = c.loop-p-test.true in
     let row = c.get_row-x.ensures in
     let found = c.find_row.ensures in
-    elim c.if-k-find_row.branch [
-      | then-k-find_row w ↦ rw (w.seats-is, w.w-is) (seat_stays v l (omega arith) (unnamed a.names.now a.k a.accounts.now c.loop-p.p _ _ row found w.if-k-find_row.true))
-      | else-k-find_row w ↦ rw (w.seats-is, w.w-is) (seat_goes v l (omega arith) (named a.names.now a.k a.accounts.now c.loop-p.p _ _ row found w.if-k-find_row.false))
+    elim c.if-stays.branch [
+      | then-stays w ↦ rw (w.seats-is, w.w-is) (seat_stays v l (omega arith) (unnamed a.names.now a.k a.accounts.now c.loop-p.p _ _ row found w.if-stays.true))
+      | else-stays w ↦ rw (w.seats-is, w.w-is) (seat_goes v l (omega arith) (named a.names.now a.k a.accounts.now c.loop-p.p _ _ row found w.if-stays.false))
     ]
 
 pub returns : goal.returns

@@ -8,7 +8,7 @@ use Rattle.columns.specs.Rows.{row_at}
 use Rattle.columns.proofs.Rows.{length_row}
 use Rattle.telling.proofs.KeyRows.{key_start, key_step, key_skip, key_end, key_room, key_true, key_false}
 use Rattle.telling.proofs.keys.Goals as goal
-use Rattle.telling.proofs.keys.Goals.{then-kind-row-ne1, else-kind-row-ne1}
+use Rattle.telling.proofs.keys.Goals.{then-internal, else-internal}
 
 pub loop-k-init : goal.loop-k-init
 loop-k-init c = key_start _ _ _ _ _ _ _
@@ -23,13 +23,13 @@ bounds-time-row c =
 
 pub offset_bounds-lts-w : goal.offset_bounds-lts-w
 offset_bounds-lts-w c =
-    let e = key_true c.args.rows.now c.args.kind.now c.loop-k.k _ c.wide16-row.ensures.0 c.if-kind-row-ne1.true in
+    let e = key_true c.args.rows.now c.args.kind.now c.loop-k.k _ c.wide16-row.ensures.0 c.if-internal.true in
     let r = key_room c.loop-k.invariant c.loop-k-test.true e in
     omega (arith, r, c.loop-k.invariant.low)
 
 pub bounds-lts-w : goal.bounds-lts-w
 bounds-lts-w c =
-    let e = key_true c.args.rows.now c.args.kind.now c.loop-k.k _ c.wide16-row.ensures.0 c.if-kind-row-ne1.true in
+    let e = key_true c.args.rows.now c.args.kind.now c.loop-k.k _ c.wide16-row.ensures.0 c.if-internal.true in
     let r = key_room c.loop-k.invariant c.loop-k-test.true e in
     omega (arith, r, c.requires.fits, c.loop-k.invariant.lts_done.long)
 
@@ -39,7 +39,7 @@ get_row-h-requires c =
 
 pub put_row-requires : goal.put_row-requires
 put_row-requires c =
-    let e = key_true c.args.rows.now c.args.kind.now c.loop-k.k _ c.wide16-row.ensures.0 c.if-kind-row-ne1.true in
+    let e = key_true c.args.rows.now c.args.kind.now c.loop-k.k _ c.wide16-row.ensures.0 c.if-internal.true in
     let r = key_room c.loop-k.invariant c.loop-k-test.true e in
     let wide = ap length c.get_row-h.ensures ∙ length_row c.args.hash.now _ (omega (arith, c.wide16-row.ensures.0, c.requires.there c.loop-k.k c.loop-k-test.true, c.requires.hash_long)) in
     (omega (arith, r, c.requires.hashes_fit, c.loop-k.invariant.hashes_done.long), wide)
@@ -51,15 +51,15 @@ loop-k-preserved c =
     let is = c.wide16-row.ensures.0 in
     let a = c.args in
     let p = c.requires in
-    elim c.if-kind-row-ne1.branch [
-      | then-kind-row-ne1 w ↦
+    elim c.if-internal.branch [
+      | then-internal w ↦
           let x = w.get_row-h.ensures ∙ ap (row_at a.hash.now) is in
           let wide = ap length x ∙ length_row a.hash.now _ (omega (arith, p.there c.loop-k.k l, p.hash_long)) in
           rw (w.lts-is, w.hashes-is, w.w-is, w.put_row.ensures)
-          (key_step v l (key_true a.rows.now a.kind.now c.loop-k.k _ is w.if-kind-row-ne1.true) p.fits p.hashes_fit _
+          (key_step v l (key_true a.rows.now a.kind.now c.loop-k.k _ is w.if-internal.true) p.fits p.hashes_fit _
           (ap (λ (i : ℕ). get_or a.time.now i 0) is) _ x wide)
-      | else-kind-row-ne1 w ↦
-          rw (w.lts-is, w.hashes-is, w.w-is) (key_skip v l (key_false a.rows.now a.kind.now c.loop-k.k _ is w.if-kind-row-ne1.false))
+      | else-internal w ↦
+          rw (w.lts-is, w.hashes-is, w.w-is) (key_skip v l (key_false a.rows.now a.kind.now c.loop-k.k _ is w.if-internal.false))
     ]
 
 pub returns : goal.returns
