@@ -1,33 +1,12 @@
 -- `replay::lines` is safe and ends: each command leaves all that it goes to well formed, every lent room keeps its length, and the lines are
 -- counted. Assumes nothing.
 use mathlib.Core.Path.{◌≡◌, refl, ap, ◌∙◌}
-use mathlib.Core.Logic.{⊎_elim}
 use Prim.Native.Nat.{◌-◌}
 use native.Mathlib.Omega.{arith}
 use lib.ListN.{length}
 use Rattle.replay.proofs.Going.{Kept, met, still, wrote}
 use Rattle.replay.proofs.lines.Goals as goal
-
--- ---- where the commands meet
-
-kept : (c : goal.Joined-command)
-    → Kept c.match-command.b c.match-command.s c.match-command.t c.match-command.lts c.match-command.hashes c.loop-b.lts c.loop-b.hashes
-kept c =
-    let r = c.loop-b.invariant.0 in
-    ⊎_elim (λ w. met w.7 w.8 w.9 w.10 w.11 (still w.4.ensures r.shelf r.tray r.keys))
-    (⊎_elim (λ w. met w.11 w.12 w.13 w.14 w.15 (wrote r.buffer r.shelf w.5.ensures r.keys w.5.kept.1.1.1.0 w.5.kept.1.1.1.1.0))
-    (⊎_elim (λ w. met w.6 w.7 w.8 w.9 w.10 (still r.buffer w.3.ensures r.tray r.keys))
-    (⊎_elim (λ w. met w.14 w.15 w.16 w.17 w.18 (wrote w.5.ensures.0 w.5.ensures.1 w.5.ensures.2 r.keys w.5.kept.1.1.1.1.1.0 w.5.kept.1.1.1.1.1.1.0))
-    (λ w. met w.8 w.9 w.10 w.11 w.12 (still r.buffer r.shelf r.tray r.keys)))))
-    c.match-command.branch
-
-line_kept : (c : goal.Joined-command) → length c.match-command.line ≡ length c.loop-b.line
-line_kept c =
-    let k = c.take-next.auto.line in
-    ⊎_elim (λ w. ap length w.6 ∙ k)
-    (⊎_elim (λ w. ap length w.10 ∙ k)
-    (⊎_elim (λ w. ap length w.5 ∙ k) (⊎_elim (λ w. ap length w.13 ∙ k) (λ w. ap length w.7 ∙ w.4.kept.1.1.1.0 ∙ k))))
-    c.match-command.branch
+use Rattle.replay.proofs.lines.Goals.{in-Buffer, in-Tray, in-Shelf, in-Fill, in-Look}
 
 pub loop-b-init : goal.loop-b-init
 loop-b-init c =
@@ -40,42 +19,37 @@ pub take-next-requires : goal.take-next-requires
 take-next-requires c =
     record { counted = c.goes_on.ensures c.loop-b-test.true; within = c.loop-b.invariant.1 }
 
-pub enum_known-task : goal.enum_known-task
-enum_known-task c = c.in-Do.keys1
-
-pub enum_known-command : goal.enum_known-command
-enum_known-command c = c.in-Buffer.keys1
-
 -- ---- what each command asks for
 pub repeat-d-requires : goal.repeat-d-requires
 repeat-d-requires c = c.loop-b.invariant.0.buffer
 
-pub enum_known-command-in-Tray-1 : goal.enum_known-command-in-Tray-1
-enum_known-command-in-Tray-1 c = c.in-Tray.keys2
-
 pub repeat-t-requires : goal.repeat-t-requires
 repeat-t-requires c = let r = c.loop-b.invariant.0 in (r.tray, r.keys)
-
-pub enum_known-command-in-Shelf-1 : goal.enum_known-command-in-Shelf-1
-enum_known-command-in-Shelf-1 c = c.in-Shelf.keys3
 
 pub repeat-d-requires-in-Shelf : goal.repeat-d-requires-in-Shelf
 repeat-d-requires-in-Shelf c = c.loop-b.invariant.0.shelf
 
-pub enum_known-command-in-Fill-1 : goal.enum_known-command-in-Fill-1
-enum_known-command-in-Fill-1 c = c.in-Fill.keys4
-
 pub repeat-d-requires-in-Fill : goal.repeat-d-requires-in-Fill
 repeat-d-requires-in-Fill c = let r = c.loop-b.invariant.0 in (r.buffer, r.shelf, r.tray, r.keys)
-
-pub enum_known-command-in-Look-1 : goal.enum_known-command-in-Look-1
-enum_known-command-in-Look-1 c = c.in-Look.keys5
 
 pub answer-reply-requires : goal.answer-reply-requires
 answer-reply-requires c = let r = c.loop-b.invariant.0 in (r.buffer, r.shelf)
 
 pub told-pen-requires : goal.told-pen-requires
-told-pen-requires c = let r = (kept c.before.before.before.before).ready in (r.buffer, r.shelf, r.tray, r.keys)
+told-pen-requires c =
+    let i = c.loop-b.invariant.0 in
+    let r : Kept c.match-command.b c.match-command.s c.match-command.t c.match-command.lts c.match-command.hashes c.loop-b.lts c.loop-b.hashes =
+    elim c.match-command.branch [
+      | in-Buffer w ↦ met w.lts-is w.hashes-is w.b-is w.t-is w.s-is (still w.repeat-d.ensures i.shelf i.tray i.keys)
+      | in-Tray w ↦ met w.lts-is w.hashes-is w.b-is w.t-is w.s-is
+          (wrote i.buffer i.shelf w.repeat-t.ensures i.keys w.repeat-t.auto.lts w.repeat-t.auto.hashes)
+      | in-Shelf w ↦ met w.lts-is w.hashes-is w.b-is w.t-is w.s-is (still i.buffer w.repeat-d-in-Shelf.ensures i.tray i.keys)
+      | in-Fill w ↦
+          let f = w.repeat-d-in-Fill in
+          met w.lts-is w.hashes-is w.b-is w.t-is w.s-is (wrote f.ensures.0 f.ensures.1 f.ensures.2 i.keys f.auto.lts f.auto.hashes)
+      | in-Look w ↦ met w.lts-is w.hashes-is w.b-is w.t-is w.s-is (still i.buffer i.shelf i.tray i.keys)
+    ] in
+    let x = r.ready in (x.buffer, x.shelf, x.tray, x.keys)
 
 pub with_pen-c-requires : goal.with_pen-c-requires
 with_pen-c-requires c = tt
@@ -86,21 +60,29 @@ loop-b-smaller-in-Do c =
 
 pub loop-b-preserved-in-Do : goal.loop-b-preserved-in-Do
 loop-b-preserved-in-Do c =
+    let i = c.loop-b.invariant.0 in
+    let r : Kept c.match-command.b c.match-command.s c.match-command.t c.match-command.lts c.match-command.hashes c.loop-b.lts c.loop-b.hashes =
+    elim c.match-command.branch [
+      | in-Buffer w ↦ met w.lts-is w.hashes-is w.b-is w.t-is w.s-is (still w.repeat-d.ensures i.shelf i.tray i.keys)
+      | in-Tray w ↦ met w.lts-is w.hashes-is w.b-is w.t-is w.s-is
+          (wrote i.buffer i.shelf w.repeat-t.ensures i.keys w.repeat-t.auto.lts w.repeat-t.auto.hashes)
+      | in-Shelf w ↦ met w.lts-is w.hashes-is w.b-is w.t-is w.s-is (still i.buffer w.repeat-d-in-Shelf.ensures i.tray i.keys)
+      | in-Fill w ↦
+          let f = w.repeat-d-in-Fill in
+          met w.lts-is w.hashes-is w.b-is w.t-is w.s-is (wrote f.ensures.0 f.ensures.1 f.ensures.2 i.keys f.auto.lts f.auto.hashes)
+      | in-Look w ↦ met w.lts-is w.hashes-is w.b-is w.t-is w.s-is (still i.buffer i.shelf i.tray i.keys)
+    ] in
     let k = c.take-next in
-    let v = c.loop-b.invariant in
-    let r = kept c.before.before.before.before.before.before.before.before in (
+    let v = c.loop-b.invariant in (
       r.ready,
       omega (arith, c.with_pen-c.ensures.1, k.ensures.within),
       k.auto.chunk ∙ v.2,
-      line_kept c.before.before.before.before.before.before.before.before ∙ v.3,
+      c.match-command.auto.line ∙ k.auto.line ∙ v.3,
       k.auto.numbers ∙ v.4,
       c.told-pen.auto.page ∙ k.auto.page ∙ v.5,
       r.lts_kept ∙ v.6,
       r.hashes_kept ∙ v.7,
     )
-
-pub enum_told-1 : goal.enum_told-1
-enum_told-1 c = c.in_default.keys2
 
 pub loop-b-smaller : goal.loop-b-smaller
 loop-b-smaller c = omega (arith, c.take-next.ensures.counted, c.goes_on.ensures c.loop-b-test.true)
