@@ -1,2 +1,0 @@
--- The proofs of the functions, and what a command keeps.
-pub mod Going

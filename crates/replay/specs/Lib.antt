@@ -1,2 +1,0 @@
--- What the contracts of replay cite.
-pub mod Runs
