@@ -1,13 +1,12 @@
 // The fill of a group from the buffer, with what is laid ready on the tray.
-ghost use Rattle.lintelsong.specs.Closed.{GoodBuffer, GoodGroup, GoodSet};
+ghost use Rattle.lintelsong.specs.Closed.{GoodBuffer, GoodGroup};
 ghost use Rattle.desk.specs.Desks.{GoodShelf, GoodTray, KeyRoom};
 
 use crate::shelf;
 use crate::shelf::Shelf;
 use crate::tray::Tray;
 use fill_answer::Asked;
-use lintelsong::fill_calls::FillAnswer;
-use lintelsong::{Buffer, Group, Skipped};
+use lintelsong::{Buffer, Group};
 use message::Filter;
 use scenario::commands::Ask;
 use scenario::replies::Reply;
@@ -36,74 +35,86 @@ fn asked(ask: Ask, cost: u64) -> Asked {
     }
 }
 
-// Fills a group once, with the tray but for its skipped set. The key list is as long as the tray says.
+// Fills a group once, with the tray. The key list is as long as the tray says.
 fn once(
-    b: Buffer,
-    g: Group,
-    s: Skipped,
-    t: Tray,
+    b: &mut Buffer,
+    g: &mut Group,
+    t: &mut Tray,
     ask: Ask,
     lts: &mut [u64],
     hashes: &mut [u8],
-) -> FillAnswer
-    requires { GoodBuffer b × GoodGroup g × GoodSet s × GoodTray t × KeyRoom lts.old hashes.old }
-    ensures { GoodBuffer result.buffer × GoodGroup result.group × GoodSet result.skipped }
+) -> Reply
+    requires { GoodBuffer b.old × GoodGroup g.old × GoodTray t.old × KeyRoom lts.old hashes.old }
+    ensures { GoodBuffer b.new × GoodGroup g.new × GoodTray t.new }
 {
-    let names = t.names;
     let size = 32 * t.rows;
-    let verdicts = t.verdicts;
-    let costs = t.costs;
     let rows = t.keys;
     let bytes = 32 * rows;
-    b.fill(
-        g,
-        s,
+    let a = b.fill(
+        *g,
+        t.skipped,
         asked(ask, t.cost),
-        &names[..size],
-        &verdicts,
-        &costs,
+        &t.names[..size],
+        &t.verdicts,
+        &t.costs,
         &mut lts[..rows],
         &mut hashes[..bytes],
+    );
+    *b = a.buffer;
+    *g = a.group;
+    t.skipped = a.skipped;
+    let code = a.code;
+    Reply::Fill(
+        message::number_of(code),
+        a.collected,
+        a.operations,
+        a.dropped,
     )
 }
 
-// Fills a group so many times, once at least.
+// Fills a group so many times, once at least; the answer is the last one.
 fn repeated(
-    b: Buffer,
-    g: Group,
-    t: Tray,
+    b: &mut Buffer,
+    g: &mut Group,
+    t: &mut Tray,
     times: u64,
     ask: Ask,
     lts: &mut [u64],
     hashes: &mut [u8],
-) -> FillAnswer
-    requires { GoodBuffer b × GoodGroup g × GoodTray t × KeyRoom lts.old hashes.old }
-    ensures { GoodBuffer result.buffer × GoodGroup result.group × GoodSet result.skipped }
+) -> Reply
+    requires { GoodBuffer b.old × GoodGroup g.old × GoodTray t.old × KeyRoom lts.old hashes.old }
+    ensures { GoodBuffer b.new × GoodGroup g.new × GoodTray t.new }
 {
-    let set = t.skipped;
-    let mut a = once(b, g, set, t, ask, lts, hashes);
+    let mut reply = once(b, g, t, ask, lts, hashes);
     let mut count: u64 = 1;
     while count < times {
-        let buffer = a.buffer;
-        let group = a.group;
-        let skipped = a.skipped;
-        a = once(buffer, group, skipped, t, ask, lts, hashes);
+        reply = once(b, g, t, ask, lts, hashes);
         count += 1;
     }
-    a
+    reply
 }
 
-// The tray with another skipped set.
-fn with_set(t: Tray, skipped: Skipped) -> Tray
-    requires { GoodTray t × GoodSet skipped }
-    ensures { GoodTray result }
+// Fills a group of the shelf so many times, once at least; the answer is the last one. All three are lent: together they are too large to
+// be handed from call to call.
+pub fn repeat_on(
+    b: &mut Buffer,
+    s: &mut Shelf,
+    t: &mut Tray,
+    times: u64,
+    ask: Ask,
+    lts: &mut [u64],
+    hashes: &mut [u8],
+) -> Reply
+    requires { GoodBuffer b.old × GoodShelf s.old × GoodTray t.old × KeyRoom lts.old hashes.old }
+    ensures { GoodBuffer b.new × GoodShelf s.new × GoodTray t.new }
 {
-    let mut after = t;
-    after.skipped = skipped;
-    after
+    let mut g = shelf::at(s, ask.group);
+    let reply = repeated(b, &mut g, t, times, ask, lts, hashes);
+    shelf::put(s, ask.group, g);
+    reply
 }
 
-// Fills a group of the shelf so many times, once at least; the answer is the last one.
+// The same of the three by value.
 pub fn repeat(
     b: Buffer,
     s: Shelf,
@@ -116,21 +127,14 @@ pub fn repeat(
     requires { GoodBuffer b × GoodShelf s × GoodTray t × KeyRoom lts.old hashes.old }
     ensures { GoodBuffer result.buffer × GoodShelf result.shelf × GoodTray result.tray }
 {
-    let g = shelf::group_at(s, ask.group);
-    let a = repeated(b, g, t, times, ask, lts, hashes);
-    let code = a.code;
-    let buffer = a.buffer;
-    let group = a.group;
-    let skipped = a.skipped;
+    let mut buffer = b;
+    let mut shelf = s;
+    let mut tray = t;
+    let reply = repeat_on(&mut buffer, &mut shelf, &mut tray, times, ask, lts, hashes);
     Filled {
         buffer,
-        shelf: shelf::with_group(s, ask.group, group),
-        tray: with_set(t, skipped),
-        reply: Reply::Fill(
-            message::number_of(code),
-            a.collected,
-            a.operations,
-            a.dropped,
-        ),
+        shelf,
+        tray,
+        reply,
     }
 }

@@ -38,47 +38,43 @@ pub fn fresh() -> Shelf
     }
 }
 
+// ---- a shelf that is lent: nothing as large as a shelf is copied
+
 // The group at a place.
-pub fn group_at(s: Shelf, place: usize) -> Group
-    requires { GoodShelf s }
+pub fn at(s: &Shelf, place: usize) -> Group
+    requires { GoodShelf s.now }
     ensures { GoodGroup result }
 {
     if place == 0 {
-        let g = s.first;
-        return g;
+        return s.first;
     }
     if place == 1 {
-        let g = s.second;
-        return g;
+        return s.second;
     }
     if place == 2 {
-        let g = s.third;
-        return g;
+        return s.third;
     }
-    let g = s.fourth;
-    g
+    s.fourth
 }
 
-// The shelf with another group at a place.
-pub fn with_group(s: Shelf, place: usize, g: Group) -> Shelf
-    requires { GoodShelf s × GoodGroup g }
-    ensures { GoodShelf result }
+// Puts another group at a place.
+pub fn put(s: &mut Shelf, place: usize, g: Group)
+    requires { GoodShelf s.old × GoodGroup g }
+    ensures { GoodShelf s.new }
 {
-    let mut after = s;
     if place == 0 {
-        after.first = g;
-        return after;
+        s.first = g;
+        return;
     }
     if place == 1 {
-        after.second = g;
-        return after;
+        s.second = g;
+        return;
     }
     if place == 2 {
-        after.third = g;
-        return after;
+        s.third = g;
+        return;
     }
-    after.fourth = g;
-    after
+    s.fourth = g;
 }
 
 // How many groups are set up, once the one at a place is.
@@ -89,29 +85,24 @@ fn made_with(made: usize, place: usize) -> usize {
     if place < 3 { place + 1 } else { 4 }
 }
 
-// The shelf with a group that was set up at a place. Those below it that were not are taken for set up with room for one slot, which they
-// have.
-fn with_new(s: Shelf, place: usize, g: Group) -> Shelf
-    requires { GoodShelf s × GoodGroup g }
-    ensures { GoodShelf result }
+// Puts a group that was set up at a place. Those below it that were not are taken for set up with room for one slot, which they have.
+fn put_new(s: &mut Shelf, place: usize, g: Group)
+    requires { GoodShelf s.old × GoodGroup g }
+    ensures { GoodShelf s.new }
 {
-    let mut after = with_group(s, place, g);
-    after.made = made_with(s.made, place);
-    after
+    put(s, place, g);
+    s.made = made_with(s.made, place);
 }
 
-// A group set up anew at a place.
-fn set_up(s: Shelf, place: usize, slots: u64) -> Kept
-    requires { GoodShelf s }
-    ensures { GoodShelf result.shelf }
+// Sets a group up anew at a place.
+fn set_up(s: &mut Shelf, place: usize, slots: u64) -> Reply
+    requires { GoodShelf s.old }
+    ensures { GoodShelf s.new }
 {
     let a = Group::set_up(slots);
     let code = a.code;
-    let group = a.group;
-    Kept {
-        shelf: with_new(s, place, group),
-        reply: Reply::Code(message::number_of(code)),
-    }
+    put_new(s, place, a.group);
+    Reply::Code(message::number_of(code))
 }
 
 // Joins the right group to the left one so many times, once at least; the answer is the last one.
@@ -130,29 +121,55 @@ fn joined(l: Group, r: Group, times: u64) -> Joined
     j
 }
 
-// The groups at two places joined.
-fn join(s: Shelf, left: usize, right: usize, times: u64) -> Kept
-    requires { GoodShelf s }
-    ensures { GoodShelf result.shelf }
+// Joins the groups at two places.
+fn join(s: &mut Shelf, left: usize, right: usize, times: u64) -> Reply
+    requires { GoodShelf s.old }
+    ensures { GoodShelf s.new }
 {
-    let j = joined(group_at(s, left), group_at(s, right), times);
+    let j = joined(at(s, left), at(s, right), times);
     let code = j.code;
-    let l = j.left;
-    let r = j.right;
-    let half = with_group(s, left, l);
-    Kept {
-        shelf: with_group(half, right, r),
-        reply: Reply::Code(message::number_of(code)),
-    }
+    put(s, left, j.left);
+    put(s, right, j.right);
+    Reply::Code(message::number_of(code))
 }
 
 // Does an order so many times, once at least; the answer is the last one. A set-up done again leaves the same.
-pub fn repeat(s: Shelf, times: u64, o: ShelfOrder) -> Kept
-    requires { GoodShelf s }
-    ensures { GoodShelf result.shelf }
+pub fn repeat_on(s: &mut Shelf, times: u64, o: ShelfOrder) -> Reply
+    requires { GoodShelf s.old }
+    ensures { GoodShelf s.new }
 {
     match o {
         ShelfOrder::SetUp(place, slots) => set_up(s, place, slots),
         ShelfOrder::Join(left, right) => join(s, left, right, times),
     }
+}
+
+// ---- the same of a shelf by value
+
+// The group at a place.
+pub fn group_at(s: Shelf, place: usize) -> Group
+    requires { GoodShelf s }
+    ensures { GoodGroup result }
+{
+    at(&s, place)
+}
+
+// The shelf with another group at a place.
+pub fn with_group(s: Shelf, place: usize, g: Group) -> Shelf
+    requires { GoodShelf s × GoodGroup g }
+    ensures { GoodShelf result }
+{
+    let mut after = s;
+    put(&mut after, place, g);
+    after
+}
+
+// Does an order so many times.
+pub fn repeat(s: Shelf, times: u64, o: ShelfOrder) -> Kept
+    requires { GoodShelf s }
+    ensures { GoodShelf result.shelf }
+{
+    let mut shelf = s;
+    let reply = repeat_on(&mut shelf, times, o);
+    Kept { shelf, reply }
 }

@@ -1,13 +1,14 @@
--- What the loop of `fill::repeated` keeps, and what falls with each turn. See Answers.antt.
+-- What the loop of `fill::repeated` keeps, and what falls with each turn. The check writes the rest.
 use mathlib.Core.Path.{◌≡◌}
 use Prim.Native.Nat.{◌-◌}
 use lib.ListN.{length}
-use Rattle.lintelsong.specs.Closed.{GoodBuffer, GoodGroup, GoodSet}
+use Rattle.lintelsong.specs.Closed.{GoodBuffer, GoodGroup}
+use Rattle.desk.specs.Desks.{GoodTray, KeyRoom}
 use Rattle.desk.proofs.fill.repeated.Given as goal
 
 abbrev pub invariant-loop-count : goal.invariant-loop-count
 invariant-loop-count l =
-    (GoodBuffer l.a.buffer × GoodGroup l.a.group × GoodSet l.a.skipped) × (length l.lts ≡ 2048) × (length l.hashes ≡ 65536)
+    (GoodBuffer l.b × GoodGroup l.g × GoodTray l.t × KeyRoom l.lts l.hashes) × (length l.lts ≡ length l.initial.lts) × (length l.hashes ≡ length l.initial.hashes)
 
 abbrev pub decreases-loop-count : goal.decreases-loop-count
 decreases-loop-count l = l.times - l.count

@@ -1,0 +1,2 @@
+-- What the contracts of replay cite.
+pub mod Runs

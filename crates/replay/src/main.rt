@@ -1,0 +1,104 @@
+// Reads scenarios on standard input and prints what the buffer and the groups answer and hold, in the language of docs/SCENARIOS.md.
+#![tactic(auto)]
+
+ghost use Rattle.std.specs.Prelude.{◌≤◌};
+ghost use Rattle.desk.specs.Desks.{KeyRoom};
+ghost use Rattle.replay.specs.Runs.{Ready};
+
+use desk::shelf::Shelf;
+use desk::tray::Tray;
+use intake::orders::{Course, Task};
+use lintelsong::Buffer;
+use scenario::commands::Command;
+use scenario::replies::Reply;
+use std::io::{Stdin, Stdout};
+
+// Line by line, to the end of the input, to the first line that is no command, or until a write fails. The buffer, the tray and the shelf
+// stay here, by value: each command takes what it goes to, and gives it back.
+fn lines(
+    chunk: &mut [u8],
+    line: &mut [u8],
+    numbers: &mut [u64],
+    page: &mut [u8],
+    lts: &mut [u64],
+    hashes: &mut [u8],
+    mut b: Buffer,
+    mut t: Tray,
+    mut s: Shelf,
+    mut c: Course,
+) -> Course
+    requires { Ready b s t lts.old hashes.old × (c.reader.held ≤ 0) }
+{
+    while intake::orders::goes_on(c) {
+        let next = intake::orders::take(c, s.made, chunk, line, numbers, page);
+        c = next.course;
+        let task = next.task;
+        if let Task::Do(times, n, command) = task {
+            let mut reply = Reply::Code(0);
+            match command {
+                Command::Buffer(o) => {
+                    let d = desk::buffer::repeat(b, times, o, numbers, n);
+                    b = d.buffer;
+                    reply = d.reply;
+                }
+                Command::Tray(o) => t = desk::tray::repeat(t, times, o, lts, hashes),
+                Command::Shelf(o) => reply = desk::shelf::repeat_on(&mut s, times, o),
+                Command::Fill(ask) => {
+                    reply = desk::fill::repeat_on(&mut b, &mut s, &mut t, times, ask, lts, hashes);
+                }
+                // the line was echoed, so that its room is free for a text
+                Command::Look(o) => reply = desk::looks::answer(b, s, o, line),
+            }
+            let pen = overview::state::told(page, c.pen, reply, line, b, s, t, lts, hashes);
+            c = intake::orders::with_pen(c, pen);
+        }
+    }
+    c
+}
+
+// The whole run, and what waits on the page at its end.
+fn run(
+    from: Stdin,
+    to: Stdout,
+    chunk: &mut [u8],
+    line: &mut [u8],
+    numbers: &mut [u64],
+    page: &mut [u8],
+    lts: &mut [u64],
+    hashes: &mut [u8],
+)
+    requires { KeyRoom lts.old hashes.old }
+{
+    let end = lines(
+        chunk,
+        line,
+        numbers,
+        page,
+        lts,
+        hashes,
+        desk::buffer::fresh(),
+        desk::tray::fresh(),
+        desk::shelf::fresh(),
+        intake::orders::fresh(from, to),
+    );
+    pages::out::flush(page, end.pen);
+}
+
+fn main(rt: HostRuntime) {
+    let mut chunk = [0u8; 65536];
+    let mut line = [0u8; 65537];
+    let mut numbers = [0u64; 32768];
+    let mut page = [0u8; 65536];
+    let mut lts = [0u64; 2048];
+    let mut hashes = [0u8; 65536];
+    run(
+        rt.stdin(),
+        rt.stdout(),
+        &mut chunk,
+        &mut line,
+        &mut numbers,
+        &mut page,
+        &mut lts,
+        &mut hashes,
+    );
+}
