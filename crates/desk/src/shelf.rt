@@ -164,7 +164,7 @@ pub fn with_group(s: Shelf, place: usize, g: Group) -> Shelf
     after
 }
 
-// Does an order so many times.
+// Does an order so many times, once at least; the answer is the last one. A set-up done again leaves the same.
 pub fn repeat(s: Shelf, times: u64, o: ShelfOrder) -> Kept
     requires { GoodShelf s }
     ensures { GoodShelf result.shelf }

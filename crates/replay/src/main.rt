@@ -14,7 +14,8 @@ use scenario::replies::Reply;
 use std::io::{Stdin, Stdout};
 
 // Line by line, to the end of the input, to the first line that is no command, or until a write fails. The buffer, the tray and the shelf
-// stay here, by value: each command takes what it goes to, and gives it back.
+// stay here: an order to the buffer or the tray takes it and gives it back; set-up, join and fill, which go to the shelf, are lent what
+// they go to.
 fn lines(
     chunk: &mut [u8],
     line: &mut [u8],

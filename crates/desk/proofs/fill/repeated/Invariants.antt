@@ -1,4 +1,4 @@
--- What the loop of `fill::repeated` keeps, and what falls with each turn. The check writes the rest.
+-- `desk::fill::repeated` meets its contract: each turn leaves a well formed buffer, group and tray, and the key list its room. Assumes nothing.
 use mathlib.Core.Path.{◌≡◌}
 use Prim.Native.Nat.{◌-◌}
 use lib.ListN.{length}
