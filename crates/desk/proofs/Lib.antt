@@ -1,1 +1,2 @@
--- Nothing of its own: the proofs of the functions alone.
+-- The proofs of the functions, and lemmas on the shelf.
+mod Shelves

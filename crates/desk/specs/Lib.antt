@@ -1,2 +1,3 @@
 -- What the contracts of the desk cite.
 pub mod Desks
+pub mod Shelves

@@ -1,6 +1,7 @@
 // The fill of a group from the buffer, with what is laid ready on the tray.
 ghost use Rattle.lintelsong.specs.Closed.{GoodBuffer, GoodGroup};
 ghost use Rattle.desk.specs.Desks.{GoodShelf, GoodTray, KeyRoom};
+ghost use Rattle.desk.specs.Shelves.{FillsAt, Laid};
 
 use crate::shelf;
 use crate::shelf::Shelf;
@@ -45,7 +46,8 @@ fn once(
     hashes: &mut [u8],
 ) -> Reply
     requires { GoodBuffer b.old × GoodGroup g.old × GoodTray t.old × KeyRoom lts.old hashes.old }
-    ensures { GoodBuffer b.new × GoodGroup g.new × GoodTray t.new }
+    ensures good { GoodBuffer b.new × GoodGroup g.new × GoodTray t.new }
+    ensures laid { Laid t.old t.new }
 {
     let size = 32 * t.rows;
     let rows = t.keys;
@@ -83,7 +85,8 @@ fn repeated(
     hashes: &mut [u8],
 ) -> Reply
     requires { GoodBuffer b.old × GoodGroup g.old × GoodTray t.old × KeyRoom lts.old hashes.old }
-    ensures { GoodBuffer b.new × GoodGroup g.new × GoodTray t.new }
+    ensures good { GoodBuffer b.new × GoodGroup g.new × GoodTray t.new }
+    ensures laid { Laid t.old t.new }
 {
     let mut reply = once(b, g, t, ask, lts, hashes);
     let mut count: u64 = 1;
@@ -106,7 +109,9 @@ pub fn repeat_on(
     hashes: &mut [u8],
 ) -> Reply
     requires { GoodBuffer b.old × GoodShelf s.old × GoodTray t.old × KeyRoom lts.old hashes.old }
-    ensures { GoodBuffer b.new × GoodShelf s.new × GoodTray t.new }
+    ensures good { GoodBuffer b.new × GoodShelf s.new × GoodTray t.new }
+    ensures filled { FillsAt ask.group s.old s.new }
+    ensures laid { Laid t.old t.new }
 {
     let mut g = shelf::at(s, ask.group);
     let reply = repeated(b, &mut g, t, times, ask, lts, hashes);

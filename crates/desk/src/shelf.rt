@@ -1,6 +1,9 @@
 // A shelf of four groups, of which the first `made` are set up; the others are fresh, with room for one slot.
+ghost use Rattle.std.specs.Prelude.{◌≡◌, ◌-◌};
 ghost use Rattle.lintelsong.specs.Closed.{GoodGroup};
+ghost use Rattle.scenario.specs.declared.commands.ShelfOrder.TheVariants.{SetUp, Join};
 ghost use Rattle.desk.specs.Desks.{GoodShelf};
+ghost use Rattle.desk.specs.Shelves.{held_at, with_at, made_up_to, raised, JoinsOn, Obeyed};
 
 use lintelsong::Group;
 use lintelsong::group_calls::Joined;
@@ -43,7 +46,8 @@ pub fn fresh() -> Shelf
 // The group at a place.
 pub fn at(s: &Shelf, place: usize) -> Group
     requires { GoodShelf s.now }
-    ensures { GoodGroup result }
+    ensures good { GoodGroup result }
+    ensures there { result ≡ held_at place s.now }
 {
     if place == 0 {
         return s.first;
@@ -60,7 +64,8 @@ pub fn at(s: &Shelf, place: usize) -> Group
 // Puts another group at a place.
 pub fn put(s: &mut Shelf, place: usize, g: Group)
     requires { GoodShelf s.old × GoodGroup g }
-    ensures { GoodShelf s.new }
+    ensures good { GoodShelf s.new }
+    ensures there { s.new ≡ with_at place g s.old }
 {
     if place == 0 {
         s.first = g;
@@ -78,7 +83,9 @@ pub fn put(s: &mut Shelf, place: usize, g: Group)
 }
 
 // How many groups are set up, once the one at a place is.
-fn made_with(made: usize, place: usize) -> usize {
+fn made_with(made: usize, place: usize) -> usize
+    ensures { result ≡ made_up_to place made }
+{
     if place < made {
         return made;
     }
@@ -88,7 +95,8 @@ fn made_with(made: usize, place: usize) -> usize {
 // Puts a group that was set up at a place. Those below it that were not are taken for set up with room for one slot, which they have.
 fn put_new(s: &mut Shelf, place: usize, g: Group)
     requires { GoodShelf s.old × GoodGroup g }
-    ensures { GoodShelf s.new }
+    ensures good { GoodShelf s.new }
+    ensures there { s.new ≡ raised place (with_at place g s.old) }
 {
     put(s, place, g);
     s.made = made_with(s.made, place);
@@ -97,7 +105,8 @@ fn put_new(s: &mut Shelf, place: usize, g: Group)
 // Sets a group up anew at a place.
 fn set_up(s: &mut Shelf, place: usize, slots: u64) -> Reply
     requires { GoodShelf s.old }
-    ensures { GoodShelf s.new }
+    ensures good { GoodShelf s.new }
+    ensures obeyed { Obeyed (SetUp place slots) 1 s.old s.new result }
 {
     let a = Group::set_up(slots);
     let code = a.code;
@@ -108,7 +117,8 @@ fn set_up(s: &mut Shelf, place: usize, slots: u64) -> Reply
 // Joins the right group to the left one so many times, once at least; the answer is the last one.
 fn joined(l: Group, r: Group, times: u64) -> Joined
     requires { GoodGroup l × GoodGroup r }
-    ensures { GoodGroup result.left × GoodGroup result.right }
+    ensures good { GoodGroup result.left × GoodGroup result.right }
+    ensures joined { JoinsOn (times - 1) l r result.code result.left result.right }
 {
     let mut j = l.join(r);
     let mut count: u64 = 1;
@@ -124,7 +134,8 @@ fn joined(l: Group, r: Group, times: u64) -> Joined
 // Joins the groups at two places.
 fn join(s: &mut Shelf, left: usize, right: usize, times: u64) -> Reply
     requires { GoodShelf s.old }
-    ensures { GoodShelf s.new }
+    ensures good { GoodShelf s.new }
+    ensures obeyed { Obeyed (Join left right) times s.old s.new result }
 {
     let j = joined(at(s, left), at(s, right), times);
     let code = j.code;
@@ -136,7 +147,8 @@ fn join(s: &mut Shelf, left: usize, right: usize, times: u64) -> Reply
 // Does an order so many times, once at least; the answer is the last one. A set-up done again leaves the same.
 pub fn repeat_on(s: &mut Shelf, times: u64, o: ShelfOrder) -> Reply
     requires { GoodShelf s.old }
-    ensures { GoodShelf s.new }
+    ensures good { GoodShelf s.new }
+    ensures obeyed { Obeyed o times s.old s.new result }
 {
     match o {
         ShelfOrder::SetUp(place, slots) => set_up(s, place, slots),

@@ -1,2 +1,1 @@
--- The proofs of the functions, and what a command keeps.
-pub mod Going
+-- No law of its own.

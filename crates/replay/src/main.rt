@@ -13,9 +13,40 @@ use scenario::commands::Command;
 use scenario::replies::Reply;
 use std::io::{Stdin, Stdout};
 
+// A command, done so many times, and its answer. The line was echoed, so that its room is free for a text.
+fn obeyed(
+    command: Command,
+    times: u64,
+    b: &mut Buffer,
+    t: &mut Tray,
+    s: &mut Shelf,
+    line: &mut [u8],
+    numbers: &[u64],
+    n: usize,
+    lts: &mut [u64],
+    hashes: &mut [u8],
+) -> Reply
+    requires { Ready b.old s.old t.old lts.old hashes.old }
+    ensures { Ready b.new s.new t.new lts.new hashes.new }
+{
+    match command {
+        Command::Buffer(o) => {
+            let d = desk::buffer::repeat(*b, times, o, numbers, n);
+            *b = d.buffer;
+            d.reply
+        }
+        Command::Tray(o) => {
+            *t = desk::tray::repeat(*t, times, o, lts, hashes);
+            Reply::Code(0)
+        }
+        Command::Shelf(o) => desk::shelf::repeat_on(s, times, o),
+        Command::Fill(ask) => desk::fill::repeat_on(b, s, t, times, ask, lts, hashes),
+        Command::Look(o) => desk::looks::answer(*b, *s, o, line),
+    }
+}
+
 // Line by line, to the end of the input, to the first line that is no command, or until a write fails. The buffer, the tray and the shelf
-// stay here: an order to the buffer or the tray takes it and gives it back; set-up, join and fill, which go to the shelf, are lent what
-// they go to.
+// stay here; each command is lent what it goes to.
 fn lines(
     chunk: &mut [u8],
     line: &mut [u8],
@@ -35,21 +66,9 @@ fn lines(
         c = next.course;
         let task = next.task;
         if let Task::Do(times, n, command) = task {
-            let mut reply = Reply::Code(0);
-            match command {
-                Command::Buffer(o) => {
-                    let d = desk::buffer::repeat(b, times, o, numbers, n);
-                    b = d.buffer;
-                    reply = d.reply;
-                }
-                Command::Tray(o) => t = desk::tray::repeat(t, times, o, lts, hashes),
-                Command::Shelf(o) => reply = desk::shelf::repeat_on(&mut s, times, o),
-                Command::Fill(ask) => {
-                    reply = desk::fill::repeat_on(&mut b, &mut s, &mut t, times, ask, lts, hashes);
-                }
-                // the line was echoed, so that its room is free for a text
-                Command::Look(o) => reply = desk::looks::answer(b, s, o, line),
-            }
+            let reply = obeyed(
+                command, times, &mut b, &mut t, &mut s, line, numbers, n, lts, hashes,
+            );
             let pen = overview::state::told(page, c.pen, reply, line, b, s, t, lts, hashes);
             c = intake::orders::with_pen(c, pen);
         }

@@ -1,4 +1,5 @@
--- What the loop of `lines` keeps, and what falls with each turn. See Answers.antt.
+-- `replay::lines` is safe and ends: each command leaves all that it goes to well formed, every lent room keeps its length, and the lines are
+-- counted. Assumes nothing.
 use mathlib.Core.Path.{◌≡◌}
 use Prim.Native.Nat.{◌-◌, ◌≤◌}
 use lib.ListN.{length}

@@ -4,11 +4,12 @@ use Prim.Native.Nat.{◌-◌}
 use lib.ListN.{length}
 use Rattle.lintelsong.specs.Closed.{GoodBuffer, GoodGroup}
 use Rattle.desk.specs.Desks.{GoodTray, KeyRoom}
+use Rattle.desk.specs.Shelves.{Laid}
 use Rattle.desk.proofs.fill.repeated.Given as goal
 
 abbrev pub invariant-loop-count : goal.invariant-loop-count
 invariant-loop-count l =
-    (GoodBuffer l.b × GoodGroup l.g × GoodTray l.t × KeyRoom l.lts l.hashes) × (length l.lts ≡ length l.initial.lts) × (length l.hashes ≡ length l.initial.hashes)
+    (GoodBuffer l.b × GoodGroup l.g × GoodTray l.t × KeyRoom l.lts l.hashes) × Laid l.fn.t l.t × (length l.lts ≡ length l.initial.lts) × (length l.hashes ≡ length l.initial.hashes)
 
 abbrev pub decreases-loop-count : goal.decreases-loop-count
 decreases-loop-count l = l.times - l.count

@@ -1,0 +1,19 @@
+-- `desk::shelf::put` meets its contract: another group at each of the places. Assumes nothing.
+use Rattle.desk.specs.Shelves.{with_at}
+use Rattle.desk.proofs.Shelves.{fourth_put}
+use Rattle.desk.proofs.shelf.put.Goals as goal
+
+pub returns-then-place-eq0-clause-there : goal.returns-then-place-eq0-clause-there
+unfolding with_at
+returns-then-place-eq0-clause-there c = rw c.if-place-eq0.true
+
+pub returns-then-place-eq1-clause-there : goal.returns-then-place-eq1-clause-there
+unfolding with_at
+returns-then-place-eq1-clause-there c = rw c.if-place-eq1.true
+
+pub returns-then-place-eq2-clause-there : goal.returns-then-place-eq2-clause-there
+unfolding with_at
+returns-then-place-eq2-clause-there c = rw c.if-place-eq2.true
+
+pub returns-clause-there : goal.returns-clause-there
+returns-clause-there c = fourth_put _ _ _ c.if-place-eq0.false c.if-place-eq1.false c.if-place-eq2.false
