@@ -2,37 +2,29 @@
 // value; the calls by value and the exports are made of these.
 #![tactic(auto)]
 
-ghost use Rattle.std.specs.Prelude.{◌≡◌, length, get_or};
+ghost use Rattle.std.specs.Prelude.{◌≡◌, ◌≤◌, get_or};
 ghost use Rattle.queues.specs.Look.{row_of};
-ghost use Rattle.accounts_seen.specs.Accounts.{holds, account_found, AccountsIn};
-
-use message::SeenAccount;
+ghost use Rattle.accounts_seen.specs.Accounts.{holds, account_found};
 
 // Whether an account has a list in the group.
 pub fn contains_account(accounts: &[u8; 32768], numbers: &[u64; 16], name: [u8; 32]) -> bool
-    requires { AccountsIn (length accounts.now) numbers.now }
+    requires { get_or numbers.now 2 0 ≤ 1024 }
     ensures { result ≡ holds accounts.now numbers.now name }
 {
     let held = numbers[2] as usize;
-    let x = name;
-    rows::find_row(accounts, held, &x) < held
+    rows::find_row(accounts, held, &name) < held
 }
 
 // The account in row k, which has the k-th list; none past the end.
-pub fn account_at(accounts: &[u8; 32768], numbers: &[u64; 16], k: usize) -> SeenAccount
-    requires { AccountsIn (length accounts.now) numbers.now }
+pub fn account_at(accounts: &[u8; 32768], numbers: &[u64; 16], k: usize) -> Option<[u8; 32]>
+    requires { get_or numbers.now 2 0 ≤ 1024 }
     ensures { result ≡ account_found accounts.now numbers.now k }
 {
     let listed = numbers[2] as usize;
     if k < listed {
-        return SeenAccount {
-            found: true,
-            account: rows::get_row(accounts, k),
-        };
-    }
-    SeenAccount {
-        found: false,
-        account: [0u8; 32],
+        Some(rows::get_row(accounts, k))
+    } else {
+        None
     }
 }
 
@@ -43,8 +35,8 @@ pub fn slot_account_at(
     numbers: &[u64; 16],
     position: usize,
     k: usize,
-) -> SeenAccount
-    requires { AccountsIn (length accounts.now) numbers.now × (length home.now ≡ 1024) }
+) -> Option<[u8; 32]>
+    requires { get_or numbers.now 2 0 ≤ 1024 }
     ensures { result ≡ account_found accounts.now numbers.now (row_of home.now (get_or numbers.now 2 0) position k) }
 {
     let held = numbers[2] as usize;

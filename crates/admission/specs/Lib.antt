@@ -1,2 +1,2 @@
--- What giving a seat needs and leaves.
+-- What giving a seat leaves.
 pub mod Seats

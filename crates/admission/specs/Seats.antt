@@ -1,14 +1,8 @@
--- What giving an account its seat needs and leaves: the seat lies in the account table, and a name behind the last is entered in the index.
+-- What giving an account its seat leaves: the seat lies in the account table, and a name behind the last is entered in the index.
 -- Assumes nothing.
-use Rattle.std.specs.Prelude.{◌≡◌, cond, List, ℕ, ◌<◌, leb, drop}
+use Rattle.std.specs.Prelude.{◌≡◌, cond, List, ℕ, leb, drop}
 use Rattle.index.specs.Names.{enter_c, with_index}
 use Rattle.queues.specs.Append.{seated_c}
-
-pub record Seatable (seat places wide bytes cells : ℕ) : Type 0 where
-  pub low : seat < 256
-  pub row : wide ≡ 32
-  pub table : bytes ≡ 16384
-  pub many : cells ≡ 528
 
 -- the name entered where the seat is behind the last
 abbrev pub entered_c : (seat places : ℕ) → List ℕ → List ℕ → List ℕ

@@ -8,15 +8,15 @@ use native.Mathlib.Omega.{arith}
 use lib.Dec.{leb, ltb}
 use lib.ListN.{length, get_or}
 use borrow.Author.Tests.{leb-false, eq-eqb, ne_eqb}
+use Rattle.std.specs.Prelude.{Err}
 use Rattle.numbers.proofs.Bytes.{by_bool}
 use Rattle.columns.specs.Rows.{rows_of}
 use Rattle.columns.proofs.Index.{index_le}
 use Rattle.columns.proofs.Rows.{length_rows}
 use Rattle.index.specs.Names.{indexed_by}
-use Rattle.message.specs.declared.Code.{Code}
-use Rattle.message.specs.declared.Code.TheVariants.{Done, Special, WrongKind, Full, Crowded}
+use Rattle.message.specs.declared.Refusal.TheVariants.{Special, WrongKind, Full, Crowded}
 use Rattle.message.specs.declared.Message.{Message}
-use Rattle.message.specs.Answers.{number as number_of}
+use Rattle.message.specs.Answers.{Code, Done, number as number_of}
 use Rattle.message.specs.Records.{account_of}
 use Rattle.queues.specs.Cols.{Cols, cols, live, number}
 use Rattle.queues.specs.Indexed.{indexed_c}
@@ -25,13 +25,13 @@ use Rattle.queues.specs.Look.{seat_of}
 use Rattle.queues.specs.Append.{left, only_done, add_code_c, more, counted_c, seated_c, appended_c, add_c}
 use Rattle.queues.proofs.Counts.{ints_few, exts_few}
 use Rattle.arrivals.specs.Countable.{Countable}
-use Rattle.admission.specs.Seats.{Seatable, SeatedIn, entered_c}
+use Rattle.admission.specs.Seats.{SeatedIn, entered_c}
 use Rattle.append.specs.Rows.{Writable, Written}
 use Rattle.append.proofs.Naming.{counted_length, counted_index, named}
 
 -- neither of the two last tests held
 open_room : (special wrong full crowded : Bool)
-    → number_of (cond special Special (cond wrong WrongKind (cond full Full (cond crowded Crowded Done)))) ≡ 0
+    → number_of (cond special (Err Special) (cond wrong (Err WrongKind) (cond full (Err Full) (cond crowded (Err Crowded) Done)))) ≡ 0
     → (full ≡ false) × (crowded ≡ false)
 open_room true wrong full crowded e = absurd (omega arith)
 open_room false true full crowded e = absurd (omega arith)
@@ -65,7 +65,8 @@ module _ {m : Message} {c : Cols} {x : List ℕ} {seat : ℕ} {code : Code} (d :
   coded : number_of (add_code_c m seat c.numbers) ≡ 0
   coded = sym (ap number_of d.decision) ∙ done
 
-  low : seat < 256
+  -- the seat lies in the account table
+  pub low : seat < 256
   low =
       let h = index_le x x (rows_of (number c 3) c.accounts) in
       let l = length_rows (number c 3) c.accounts in
@@ -75,28 +76,8 @@ module _ {m : Message} {c : Cols} {x : List ℕ} {seat : ℕ} {code : Code} (d :
   next : number c 2 < 1024
   next = omega (arith, row_free m seat c.numbers coded, good.M·high)
 
-  pub writable : Writable (number c 2) seat (length c.owner) (length c.kind) (length c.form) (length c.time) (length c.address) (length c.hash)
-  writable =
-      let l = good.lengths in
-      record {
-        row = omega (arith, next);
-        short = omega (arith, low);
-        owner = l.owner;
-        kind = l.kind;
-        form = l.form;
-        time = l.time;
-        address = l.address;
-        hash = l.hash;
-      }
-
-  pub seatable : {ns : List ℕ} → length x ≡ 32 → ns ≡ counted_c m.kind m.time seat c.numbers
-      → Seatable seat (number c 3) (length x) (length c.accounts) (length ns)
-  seatable wide e = record {
-    low = low;
-    row = wide;
-    table = good.lengths.accounts;
-    many = ap length e ∙ counted_length m.kind m.time seat c.numbers ∙ good.many;
-  }
+  pub writable : Writable (number c 2) seat
+  writable = record { row = omega (arith, next); short = omega (arith, low) }
 
   -- the seat is behind the last at the most, and then there is room for the name
   seat_last : seat ≤ number c 3

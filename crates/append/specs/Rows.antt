@@ -4,15 +4,9 @@ use Rattle.columns.specs.Laid.{laid_at}
 use Rattle.message.specs.declared.Message.{Message}
 use Rattle.records.specs.Records.{form_byte}
 
-pub record Writable (n seat owners kinds forms times addresses hashes : ℕ) : Type 0 where
+pub record Writable (n seat : ℕ) : Type 0 where
   pub row : n < 2048
   pub short : seat < 65536
-  pub owner : owners ≡ 2048
-  pub kind : kinds ≡ 2048
-  pub form : forms ≡ 2048
-  pub time : times ≡ 2048
-  pub address : addresses ≡ 65536
-  pub hash : hashes ≡ 65536
 
 -- the six columns with the message in row n
 pub record Written (m : Message) (seat n : ℕ) (owner₀ kind₀ form₀ time₀ address₀ hash₀ owner' kind' form' time' address' hash' : List ℕ) : Type 0 where

@@ -1,7 +1,7 @@
 // An add: the account found by the index, the decision, the next row, the numbers, and the account's seat. Nothing large is copied, and a refusal writes nothing.
 #![tactic(auto)]
 
-ghost use Rattle.std.specs.Prelude.{◌≡◌, length};
+ghost use Rattle.std.specs.Prelude.{◌≡◌};
 ghost use Rattle.queues.specs.Cols.{cols};
 ghost use Rattle.queues.specs.Good.{Good};
 ghost use Rattle.queues.specs.Append.{left, add_c};
@@ -21,7 +21,7 @@ fn write_row(
     address: &mut [u8; 65536],
     hash: &mut [u8; 65536],
 )
-    requires { Writable n seat (length owner.old) (length kind.old) (length form.old) (length time.old) (length address.old) (length hash.old) }
+    requires { Writable n seat }
     ensures { Written m seat n owner.old kind.old form.old time.old address.old hash.old owner.new kind.new form.new time.new address.new hash.new }
 {
     owner[n] = seat as u16;
@@ -54,11 +54,9 @@ pub fn add(
     let places = numbers[3] as usize;
     let x = message::account(m);
     let seat = index::find(accounts, places, numbers, &x);
-    let code = admission::decide(m, seat, numbers);
-    if message::number_of(code) == 0 {
-        write_row(m, seat, n, owner, kind, form, time, address, hash);
-        arrivals::count_in(m.kind, m.time, seat, numbers);
-        admission::seat_in(seat, places, &x, accounts, numbers);
-    }
-    code
+    admission::decide(m, seat, numbers)?;
+    write_row(m, seat, n, owner, kind, form, time, address, hash);
+    arrivals::count_in(m.kind, m.time, seat, numbers);
+    admission::seat_in(seat, places, &x, accounts, numbers);
+    Ok(())
 }

@@ -1,5 +1,5 @@
--- One bucket: its entries stand before its marks, so a bucket is known by its entries. How the loops count them, put one more behind them
--- and take one out. Assumes nothing.
+-- One bucket: its entries stand before its marks, so a bucket is known by its entries. How they are counted, one more is put behind them
+-- and one is taken out. Assumes nothing.
 use mathlib.Core.Path.{◌≡◌, refl, sym, ap, ap₂, ◌∙◌}
 use mathlib.Core.Bool.{Bool, cond, not}
 use mathlib.Core.List.{List, [], ◌∷◌, ◌++◌, append-nil, append_assoc}
@@ -8,8 +8,11 @@ use native.Mathlib.Nat.{not-suc-le-zero, le_of_suc-le-suc, zero-add}
 use native.Mathlib.Numerals.{add-one}
 use native.Mathlib.Omega.{arith}
 use lib.Dec.{eqb, ltb}
+use Rattle.std.proofs.lemmas.List.Sums.{prefix_len-le-length}
+use Rattle.std.specs.List.{prefix_len, position, position_or_len}
+use Rattle.std.specs.Option.{unwrap_or}
 use lib.ListN.{length, get_or, take, drop, set, replicate, length-append, length-replicate, length-set, get_or-replicate, drop_of_length-le, replicate-append-replicate, get_or-append, get_or-eq_default}
-use lib.Seq.{length-take-le, take_all, drop-cons, set_at, get_or-append-add, take-suc-set, drop-set-lt}
+use lib.Seq.{length-take-le, drop-cons, set_at, get_or-append-add, take-suc-set, drop-set-lt}
 use borrow.Author.Tests.{eq-eqb, ne_eqb, lt-ltb, ltb-true, ltb-false, le-ltb}
 use Rattle.rules.specs.World.{Each, keep}
 use Rattle.rules.specs.Demand.{OnceN}
@@ -80,32 +83,19 @@ entry_at xs k d l =
 pub entry_of : {cells : List ℕ} → GoodBucket cells → (k d : ℕ) → k < 64 → get_or cells k d ≡ get_or (up_to cells) k mark
 entry_of {cells} g k d l = ap (λ (b : List ℕ). get_or b k d) g.gapless ∙ entry_at (up_to cells) k d l
 
--- ---- the loop that counts the entries
+-- ---- the entries are what stands before the first mark
 
-pub record Counting (cells : List ℕ) (k : ℕ) : Type 0 where
-  pub within : k ≤ 64
-  pub rest : k + length (up_to (drop k cells)) ≡ length (up_to cells)
+few_up_to : (cells : List ℕ) → prefix_len (λ (x : ℕ). not (not (ltb x mark))) cells ≡ length (up_to cells)
+unfolding up_to
+few_up_to [] = refl
+few_up_to (n ∷ cells) = by_bool (ltb n mark) (λ t. rw (t, few_up_to cells) (omega arith)) (λ f. rw f)
 
-pub count_start : (cells : List ℕ) → Counting cells 0
-count_start cells = record { within = omega arith; rest = zero-add (length (up_to cells)) }
-
-module _ {cells : List ℕ} {k : ℕ} (v : Counting cells k) (long : length cells ≡ 64) where
-  next : k < 64 → up_to (drop k cells) ≡ cond (ltb (get_or cells k 0) mark) (get_or cells k 0 ∷ up_to (drop (k + 1) cells)) []
-  unfolding up_to
-  next l = rw (add-one k, drop-cons cells k 0 (omega arith))
-
-  pub count_step : k < 64 → get_or cells k 0 < mark → Counting cells (k + 1)
-  count_step l h = record {
-    within = omega arith;
-    rest = omega (arith, v.rest, ap length (rw (lt-ltb (get_or cells k 0) mark h) at (next l)));
-  }
-
-  pub count_found : k < 64 → mark ≤ get_or cells k 0 → k ≡ length (up_to cells)
-  count_found l h = omega (arith, v.rest, ap length (rw (le-ltb (get_or cells k 0) mark h) at (next l)))
-
-  pub count_end : 64 ≤ k → k ≡ length (up_to cells)
-  unfolding up_to
-  count_end h = omega (arith, v.rest, ap (λ (l : List ℕ). length (up_to l)) (drop_of_length-le cells {i = k} (omega arith)))
+pub first_mark : (cells : List ℕ) → length cells ≡ 64 → unwrap_or (position (λ (x : ℕ). not (ltb x mark)) cells) 64 ≡ length (up_to cells)
+first_mark cells long =
+    let n = position_or_len (λ (x : ℕ). not (ltb x mark)) cells in
+    by_bool (ltb n (length cells))
+    (λ t. rw t (few_up_to cells))
+    (λ f. rw f (omega (arith, long, ltb-false n (length cells) f, prefix_len-le-length (λ (x : ℕ). not (not (ltb x mark))) cells, few_up_to cells)))
 
 -- ---- one more put last
 
@@ -169,27 +159,19 @@ module _ {gone : ℕ} {cells₀ cells : List ℕ} {i w : ℕ} (v : Closing gone 
         back = drop-set-lt (w + 1) cells w x (omega arith) ∙ drop_same cells cells₀ w (w + 1) v.back (omega arith);
       }
 
--- ---- and the loop behind it, that marks the cells that came free
+-- ---- and the marks in the cells that came free
 
 keep_marks : (gone m : ℕ) → gone < mark → keep (other gone) (marks m) ≡ marks m
 unfolding keep
 keep_marks gone zero h = refl
 keep_marks gone (suc m) h = rw (ne_eqb mark gone (λ e. omega arith), keep_marks gone m h)
 
-pub record Marking (xs cells : List ℕ) (w : ℕ) : Type 0 where
-  pub within : w ≤ 64
-  pub long : length cells ≡ 64
-  pub same : take w cells ++ marks (64 - w) ≡ bucket xs
-
-pub mark_start : {gone : ℕ} {cells₀ cells : List ℕ} {i w : ℕ} → Closing gone cells₀ cells i w → 64 ≤ i → gone < mark
-    → (xs : List ℕ) → length xs ≤ 64 → cells₀ ≡ bucket xs → Marking (keep (other gone) xs) cells w
+pub marked : {gone : ℕ} {cells₀ cells : List ℕ} {i w : ℕ} → Closing gone cells₀ cells i w → 64 ≤ i → gone < mark
+    → (xs : List ℕ) → length xs ≤ 64 → cells₀ ≡ bucket xs → take w cells ++ marks (64 - w) ≡ bucket (keep (other gone) xs)
 unfolding keep
-mark_start {gone} {cells₀} {cells} {i} {w} v h g xs few e = record {
-  within = omega (arith, v.within, v.low);
-  long = v.long;
-  same = ap₂ ◌++◌ front (ap marks rest) ∙ append_assoc ys (marks m) (marks (64 - length ys - m))
-      ∙ ap (λ (l : List ℕ). ys ++ l) (replicate-append-replicate m (64 - length ys - m) mark ∙ ap marks whole);
-}
+marked {gone} {cells₀} {cells} {i} {w} v h g xs few e =
+    ap₂ ◌++◌ front (ap marks rest) ∙ append_assoc ys (marks m) (marks (64 - length ys - m))
+    ∙ ap (λ (l : List ℕ). ys ++ l) (replicate-append-replicate m (64 - length ys - m) mark ∙ ap marks whole)
   where
     ys : List ℕ
     ys = keep (other gone) xs
@@ -214,20 +196,3 @@ mark_start {gone} {cells₀} {cells} {i} {w} v h g xs few e = record {
 
     whole : m + (64 - length ys - m) ≡ 64 - length ys
     whole = omega (arith, length_keep (other gone) xs)
-
-module _ {xs cells : List ℕ} {w : ℕ} (v : Marking xs cells w) where
-  pub mark_step : w < 64 → Marking xs (set cells w mark) (w + 1)
-  mark_step l =
-      let free : 64 - w ≡ suc (64 - (w + 1)) = omega arith in
-      record {
-        within = omega arith;
-        long = length-set cells w mark ∙ v.long;
-        same = rw (add-one w, take-suc-set cells w mark (omega (arith, v.long)), append_assoc, ← add-one w) (ap (λ (m : ℕ). take w cells ++ marks m) (sym free) ∙ v.same);
-      }
-
-  pub mark_end : 64 ≤ w → cells ≡ bucket xs
-  mark_end h =
-      let none : 64 - w ≡ 0 = omega arith in
-      sym (append-nil cells)
-      ∙ ap₂ (λ (a b : List ℕ). a ++ b) (sym (take_all w cells (omega (arith, v.long)))) (ap marks (sym none))
-      ∙ v.same

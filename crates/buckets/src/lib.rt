@@ -1,5 +1,5 @@
 // The bucket index of a group: for each count of messages from 0 to 16 the numbers of the slots listed there, in the order they came. A
-// bucket is 64 cells of one array, which goes from call to call by value; the steps of one update work on the copy that it holds.
+// bucket is 64 cells of one array, which is lent from call to call.
 #![tactic(auto)]
 
 ghost use Rattle.std.specs.Prelude.{◌≡◌, ◌<◌, length, get_or, take};
@@ -20,26 +20,22 @@ pub fn fresh() -> [u32; 1088]
     [NONE; 1088]
 }
 
-// How many slots bucket c lists.
+// How many slots bucket c lists: the place of its first mark.
 pub fn listed(buckets: &[u32; 1088], c: usize) -> usize
-    requires { (length buckets.now ≡ 1088) × (c < 17) }
+    requires { c < 17 }
     ensures { result ≡ length (bucket_of buckets.now c) }
 {
     let base = 64 * c;
-    let mut k: usize = 0;
-    while k < 64 {
-        if buckets[base + k] >= NONE {
-            return k;
-        }
-        k += 1;
-    }
-    k
+    buckets[base..base + 64]
+        .iter()
+        .position(|&x| x >= NONE)
+        .unwrap_or(64)
 }
 
 // The k-th slot that bucket c lists, the mark behind the last.
-pub fn entry(buckets: [u32; 1088], c: usize, k: usize) -> u32
-    requires { GoodBuckets buckets × (c < 17) × (k < 64) }
-    ensures { result ≡ get_or (bucket_of buckets c) k mark }
+pub fn entry(buckets: &[u32; 1088], c: usize, k: usize) -> u32
+    requires { GoodBuckets buckets.now × (c < 17) × (k < 64) }
+    ensures { result ≡ get_or (bucket_of buckets.now c) k mark }
 {
     buckets[64 * c + k]
 }
@@ -50,7 +46,7 @@ pub fn put_last(buckets: &mut [u32; 1088], c: usize, number: SlotId)
     ensures { Leaves (put_last c number.0 (index buckets.old)) buckets.new }
 {
     let k = listed(buckets, c);
-    buckets[64 * c + k] = number.0 as u32;
+    buckets[64 * c + k] = u32::from(number.0);
 }
 
 // Takes a slot out of bucket c, where it is listed there: those behind it move up.
@@ -59,34 +55,26 @@ pub fn take_out(buckets: &mut [u32; 1088], c: usize, number: SlotId)
     ensures { Leaves (taken_out c number.0 (index buckets.old)) buckets.new }
 {
     let base = 64 * c;
-    let gone = number.0 as u32;
-    let mut i: usize = 0;
+    let gone = u32::from(number.0);
     let mut w: usize = 0;
-    while i < 64 {
-        let x: u32 = buckets[base + i];
+    for i in 0..64 {
+        let x = buckets[base + i];
         if x != gone {
             buckets[base + w] = x;
             w += 1;
         }
-        i += 1;
     }
-    while w < 64 {
-        buckets[base + w] = NONE;
-        w += 1;
-    }
+    buckets[base + w..base + 64].fill(NONE);
 }
 
 // Whether every bucket below the height is empty.
-pub fn none_below(buckets: [u32; 1088], height: usize) -> bool
-    ensures { result ≡ is_nil (joined (take height (index buckets))) }
+pub fn none_below(buckets: &[u32; 1088], height: usize) -> bool
+    ensures { result ≡ is_nil (joined (take height (index buckets.now))) }
 {
-    let top = if height < 17 { height } else { 17 };
-    let mut c: usize = 0;
-    while c < top {
+    for c in 0..height.min(17) {
         if buckets[64 * c] < NONE {
             return false;
         }
-        c += 1;
     }
     true
 }

@@ -4,8 +4,7 @@ use mathlib.Core.Path.{◌≡◌, sym, ap, subst, ◌∙◌}
 use Prim.Native.Nat.{ℕ}
 use Rattle.rules.specs.Calls as calls
 use Rattle.rules.specs.Calls.{Store, set_up_buffer}
-use Rattle.message.specs.declared.Code.{Code}
-use Rattle.message.specs.Answers.{number as number_of}
+use Rattle.message.specs.Answers.{Code, number as number_of}
 use Rattle.message.specs.Real.{Real}
 use Rattle.queues.specs.Cols.{Cols}
 use Rattle.queues.specs.Meant.{meant}

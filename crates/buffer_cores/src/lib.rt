@@ -8,7 +8,7 @@ ghost use Rattle.message.specs.Real.{Real};
 ghost use Rattle.queues.specs.Cols.{cols};
 ghost use Rattle.buffers.specs.Buffers.{fresh_c, set_up_c};
 ghost use Rattle.buffer_reads.specs.Lent.{counts_in, marked, lowest_in, filled_in};
-ghost use Rattle.buffer_seen.specs.Lent.{queued_in, account_found, message_found, AccountsIn, MessagesIn};
+ghost use Rattle.buffer_seen.specs.Lent.{queued_in, account_found, message_found};
 ghost use Rattle.export_parts.specs.Parts.{bit, Told, ToldMessage};
 ghost use Rattle.buffer_cores.specs.Told.{Gives, listed};
 
@@ -78,7 +78,6 @@ pub fn set_up(
 // ---- what a buffer holds
 
 pub fn counts(numbers: &[u64; 528], out: &mut [u64; 6]) -> u8
-    requires { length numbers.now ≡ 528 }
     ensures { (result ≡ 0) × (out.new ≡ listed (counts_in numbers.now)) }
 {
     let c = held::counts(numbers);
@@ -87,28 +86,24 @@ pub fn counts(numbers: &[u64; 528], out: &mut [u64; 6]) -> u8
 }
 
 pub fn has_min_ext_chain_time(numbers: &[u64; 528]) -> u8
-    requires { length numbers.now ≡ 528 }
     ensures { result ≡ bit (marked numbers.now 7) }
 {
     export_parts::bit_of(held::has_min_ext_chain_time(numbers))
 }
 
 pub fn min_ext_chain_time(numbers: &[u64; 528]) -> u64
-    requires { length numbers.now ≡ 528 }
     ensures { result ≡ lowest_in numbers.now }
 {
     held::min_ext_chain_time(numbers)
 }
 
 pub fn in_tx(numbers: &[u64; 528]) -> u8
-    requires { length numbers.now ≡ 528 }
     ensures { result ≡ bit (marked numbers.now 8) }
 {
     export_parts::bit_of(held::in_tx(numbers))
 }
 
 pub fn is_filled_by_count(numbers: &[u64; 528], limit: u64) -> u8
-    requires { length numbers.now ≡ 528 }
     ensures { result ≡ bit (filled_in numbers.now limit).count }
 {
     let filled = held::check_is_filled(numbers, limit);
@@ -116,7 +111,6 @@ pub fn is_filled_by_count(numbers: &[u64; 528], limit: u64) -> u8
 }
 
 pub fn is_filled_by_slots(numbers: &[u64; 528]) -> u8
-    requires { length numbers.now ≡ 528 }
     ensures { result ≡ bit (filled_in numbers.now 0).slots }
 {
     let filled = held::check_is_filled(numbers, 0);
@@ -129,11 +123,10 @@ pub fn account_messages_count(
     numbers: &[u64; 528],
     name: &[u8; 32],
 ) -> u64
-    requires { AccountsIn (length accounts.now) numbers.now × (get_or numbers.now 2 0 ≤ length owner.now) }
+    requires { (get_or numbers.now 3 0 ≤ 256) × (get_or numbers.now 2 0 ≤ length owner.now) }
     ensures { result ≡ queued_in owner.now accounts.now numbers.now name.now }
 {
-    let x = *name;
-    buffer_seen::account_messages_count(owner, accounts, numbers, x) as u64
+    buffer_seen::account_messages_count(owner, accounts, numbers, *name) as u64
 }
 
 // ---- the walk in order
@@ -144,7 +137,7 @@ pub fn account_at(
     out: &mut [u8; 32],
     place: u16,
 ) -> u8
-    requires { AccountsIn (length accounts.now) numbers.now }
+    requires { get_or numbers.now 3 0 ≤ 256 }
     ensures { Told result out.new (account_found accounts.now numbers.now place) }
 {
     let account = buffer_seen::account_at(accounts, numbers, place);
@@ -165,7 +158,7 @@ pub fn message_at(
     place: u16,
     position: u64,
 ) -> u8
-    requires { MessagesIn (length owner.now) (length kind.now) (length form.now) (length time.now) (length address.now) (length hash.now) numbers.now }
+    requires { get_or numbers.now 2 0 ≤ 1024 }
     ensures { ToldMessage result facts.new to.new hashed.new (message_found owner.now kind.now form.now time.now address.now hash.now numbers.now place position) }
 {
     let m = buffer_seen::message_at(

@@ -18,15 +18,14 @@ pub fn settle_buffer(
     accounts: &mut [u8; 16384],
     numbers: &mut [u64; 528],
 )
-    requires good { Good (cols owner.old kind.old form.old time.old address.old hash.old accounts.old numbers.old) }
-    requires left_len { length left.now ≡ 1024 }
+    requires { Good (cols owner.old kind.old form.old time.old address.old hash.old accounts.old numbers.old) }
     ensures { cols owner.new kind.new form.new time.new address.new hash.new accounts.new numbers.new ≡ filled_c left.now (cols owner.old kind.old form.old time.old address.old hash.old accounts.old numbers.old) }
 {
     let n = numbers[2] as usize;
     let a = numbers[3] as usize;
     let mut seats = [65535u16; 256];
     let stay = holders::seat_holders(left, n, a, &mut seats);
-    leftover::copy_back(left, n, owner);
+    laying::lay(owner, 0, left, n);
     let r = compacting::compact(
         &seats, n, a, owner, kind, form, time, address, hash, accounts,
     );

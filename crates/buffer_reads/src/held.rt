@@ -1,12 +1,11 @@
 // What a buffer holds: its counts, the minimum chain time, whether a transaction is open and whether it is filled.
-ghost use Rattle.std.specs.Prelude.{◌≡◌, length};
+ghost use Rattle.std.specs.Prelude.{◌≡◌};
 ghost use Rattle.buffer_reads.specs.Lent.{counts_in, marked, lowest_in, filled_in};
 
 use crate::{Counts, Filled};
 
 // The room of the buffer and what it holds.
 pub fn counts(numbers: &[u64; 528]) -> Counts
-    requires { length numbers.now ≡ 528 }
     ensures { result ≡ counts_in numbers.now }
 {
     Counts {
@@ -21,7 +20,6 @@ pub fn counts(numbers: &[u64; 528]) -> Counts
 
 // Whether there is a minimum chain time.
 pub fn has_min_ext_chain_time(numbers: &[u64; 528]) -> bool
-    requires { length numbers.now ≡ 528 }
     ensures { result ≡ marked numbers.now 7 }
 {
     let mark = numbers[7];
@@ -30,7 +28,6 @@ pub fn has_min_ext_chain_time(numbers: &[u64; 528]) -> bool
 
 // The minimum chain time; absent reads as 2^64 - 1.
 pub fn min_ext_chain_time(numbers: &[u64; 528]) -> u64
-    requires { length numbers.now ≡ 528 }
     ensures { result ≡ lowest_in numbers.now }
 {
     if numbers[7] != 0 {
@@ -42,7 +39,6 @@ pub fn min_ext_chain_time(numbers: &[u64; 528]) -> u64
 
 // Whether a transaction is open.
 pub fn in_tx(numbers: &[u64; 528]) -> bool
-    requires { length numbers.now ≡ 528 }
     ensures { result ≡ marked numbers.now 8 }
 {
     let open = numbers[8];
@@ -51,7 +47,6 @@ pub fn in_tx(numbers: &[u64; 528]) -> bool
 
 // Whether the buffer is filled: by count, when it holds at least `limit` messages; by slots, never.
 pub fn check_is_filled(numbers: &[u64; 528], limit: u64) -> Filled
-    requires { length numbers.now ≡ 528 }
     ensures { result ≡ filled_in numbers.now limit }
 {
     Filled {

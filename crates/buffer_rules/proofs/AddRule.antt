@@ -10,6 +10,7 @@ use lib.Dec.{eqb, leb, ltb}
 use lib.ListN.{length, get_or, length-set}
 use lib.Seq.{get_or-set_same, get_or-set_other, drop-set-lt}
 use borrow.Author.Tests.{eqb-true, le-leb, leb-true, leb-false, ltb-false}
+use Rattle.std.specs.Prelude.{Err}
 use Rattle.numbers.proofs.Bytes.{by_bool}
 use Rattle.columns.proofs.Laid.{drop_laid}
 use Rattle.columns.proofs.Tabs.{length_tab}
@@ -17,10 +18,9 @@ use Rattle.rules.specs.World.{first_of, lowered}
 use Rattle.rules.specs.Queues.{all_msgs, give, add}
 use Rattle.rules.specs.Calls.{answer, with_now, add_code, add_message}
 use Rattle.demands.proofs.Demand.{first_code}
-use Rattle.message.specs.declared.Code.{Code}
-use Rattle.message.specs.declared.Code.TheVariants.{Done, Special, WrongKind, Full, Crowded}
+use Rattle.message.specs.declared.Refusal.TheVariants.{Special, WrongKind, Full, Crowded}
 use Rattle.message.specs.declared.Message.{Message}
-use Rattle.message.specs.Answers.{number as number_of}
+use Rattle.message.specs.Answers.{Code, Done, number as number_of}
 use Rattle.message.specs.Records.{account_of}
 use Rattle.message.specs.Real.{Real, offer}
 use Rattle.records.specs.Records.{form_byte, form_of}
@@ -49,10 +49,10 @@ code_first : (m : Message) (seat : ℕ) (ns : List ℕ) → number_of (add_code_
     (first_of (leb (get_or ns 3 0) seat && leb (get_or ns 1 0) (get_or ns 3 0)) 5 0)))
 unfolding add_code_c
 code_first m seat ns =
-    number_first m.special Special _
-    ∙ ap (first_of m.special 2) (number_first (ltb 1 m.kind) WrongKind _
-    ∙ ap (first_of (ltb 1 m.kind) 3) (number_first (leb (get_or ns 0 0) (get_or ns 2 0)) Full _
-    ∙ ap (first_of (leb (get_or ns 0 0) (get_or ns 2 0)) 4) (number_first (leb (get_or ns 3 0) seat && leb (get_or ns 1 0) (get_or ns 3 0)) Crowded Done)))
+    number_first m.special (Err Special) _
+    ∙ ap (first_of m.special 2) (number_first (ltb 1 m.kind) (Err WrongKind) _
+    ∙ ap (first_of (ltb 1 m.kind) 3) (number_first (leb (get_or ns 0 0) (get_or ns 2 0)) (Err Full) _
+    ∙ ap (first_of (leb (get_or ns 0 0) (get_or ns 2 0)) 4) (number_first (leb (get_or ns 3 0) seat && leb (get_or ns 1 0) (get_or ns 3 0)) (Err Crowded) Done)))
 
 -- a message that is taken: what the add requires, and what its code rules out
 pub record Taken (m : Message) (c : Cols) : Type 0 where

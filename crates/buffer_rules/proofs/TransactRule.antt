@@ -5,10 +5,12 @@ use mathlib.Core.Option.{none, some}
 use native.Mathlib.Omega.{arith}
 use lib.Dec.{eqb}
 use borrow.Author.Tests.{eq-eqb, ne_eqb, eqb-true, eqb-false}
+use Rattle.std.specs.Prelude.{Err}
 use Rattle.numbers.proofs.Bytes.{by_bool}
 use Rattle.rules.specs.World.{first_of}
 use Rattle.rules.specs.Calls.{answer, is_open, back, begin, commit, rollback}
-use Rattle.message.specs.declared.Code.TheVariants.{Done, NoTransaction, InTransaction}
+use Rattle.message.specs.Answers.{Done}
+use Rattle.message.specs.declared.Refusal.TheVariants.{NoTransaction, InTransaction}
 use Rattle.message.specs.Real.{Real}
 use Rattle.queues.specs.Cols.{Cols, live, kept, number}
 use Rattle.queues.specs.Meant.{if_marked, buffer_of, meant}
@@ -33,7 +35,7 @@ module _ (c : Cols) where
   unfolding begin_c
   begin_taken z = rw (eq-eqb _ _ z)
 
-  begin_refused : (number c 8 ≡ 0 → ⊥) → begin_c c ≡ left InTransaction c
+  begin_refused : (number c 8 ≡ 0 → ⊥) → begin_c c ≡ left (Err InTransaction) c
   unfolding begin_c
   begin_refused z = rw (ne_eqb _ _ z)
 
@@ -41,7 +43,7 @@ module _ (c : Cols) where
   unfolding commit_c
   commit_taken z = rw (ne_eqb _ _ z)
 
-  commit_refused : number c 8 ≡ 0 → commit_c c ≡ left NoTransaction c
+  commit_refused : number c 8 ≡ 0 → commit_c c ≡ left (Err NoTransaction) c
   unfolding commit_c
   commit_refused z = rw (eq-eqb _ _ z)
 
@@ -49,7 +51,7 @@ module _ (c : Cols) where
   unfolding rollback_c
   rollback_taken z = rw (ne_eqb _ _ z)
 
-  rollback_refused : number c 8 ≡ 0 → rollback_c c ≡ left NoTransaction c
+  rollback_refused : number c 8 ≡ 0 → rollback_c c ≡ left (Err NoTransaction) c
   unfolding rollback_c
   rollback_refused z = rw (eq-eqb _ _ z)
 

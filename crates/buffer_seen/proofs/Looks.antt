@@ -1,4 +1,4 @@
--- What is seen in well formed columns of a buffer is what the rules see in what they mean (crate buffer_rules, LookRule); and such columns are
+-- What is seen in well formed columns of a buffer is what the rules see in what they mean (crate buffer_rules, LookRule); and such columns hold
 -- what the walk asks for. Assumes nothing.
 use mathlib.Core.Path.{◌≡◌, sym, ap}
 use mathlib.Core.List.{List}
@@ -12,7 +12,7 @@ use Rattle.queues.specs.Cols.{Cols, live, number}
 use Rattle.queues.specs.Meant.{meant}
 use Rattle.queues.specs.Good.{Good}
 use Rattle.buffer_rules.proofs.LookRule.{queued_told, account_told, message_told}
-use Rattle.buffer_seen.specs.Lent.{queued_in, account_found, message_found, AccountsIn, MessagesIn}
+use Rattle.buffer_seen.specs.Lent.{queued_in, account_found, message_found}
 
 pub account_seen : (c : Cols) (p : ℕ) → account_found c.accounts c.numbers p ≡ seen_account (account_at Real p (meant c).now)
 account_seen c p = ap seen_account (sym (account_told (live c) p))
@@ -26,20 +26,11 @@ module _ (c : Cols) (g : Good c) where
   message_seen p k = ap seen_message (sym (message_told (live c) g.now.placed p k))
 
   -- ---- what the walk asks for
-  pub accounts_in_lem : AccountsIn (length c.accounts) c.numbers
-  accounts_in_lem = record { many = g.many; few = omega (arith, g.now.places, g.A·high); account = g.lengths.accounts }
+  pub accounts_in_lem : number c 3 ≤ 256
+  accounts_in_lem = omega (arith, g.now.places, g.A·high)
 
   pub owners_in : number c 2 ≤ length c.owner
   owners_in = omega (arith, g.now.messages, g.M·high, g.lengths.owner)
 
-  pub messages_in : MessagesIn (length c.owner) (length c.kind) (length c.form) (length c.time) (length c.address) (length c.hash) c.numbers
-  messages_in = record {
-    many = g.many;
-    few = omega (arith, g.now.messages, g.M·high);
-    owner = g.lengths.owner;
-    kind = g.lengths.kind;
-    form = g.lengths.form;
-    time = g.lengths.time;
-    address = g.lengths.address;
-    hash = g.lengths.hash;
-  }
+  pub messages_in : number c 2 ≤ 1024
+  messages_in = omega (arith, g.now.messages, g.M·high)

@@ -1,9 +1,8 @@
--- What is seen in lent columns of a buffer, and what the walk asks of them. `ns` are the numbers. Assumes nothing.
-use Rattle.std.specs.Prelude.{◌≡◌, cond, List, ℕ, ◌≤◌, ltb, length, get_or}
+-- What is seen in lent columns of a buffer. `ns` are the numbers. Assumes nothing.
+use Rattle.std.specs.Prelude.{cond, List, ℕ, Option, ltb, get_or}
 use Rattle.std.proofs.Math.Option.{none, some}
 use Rattle.columns.specs.Rows.{row_at}
-use Rattle.message.specs.declared.SeenAccount.{SeenAccount}
-use Rattle.message.specs.declared.SeenMessage.{SeenMessage}
+use Rattle.message.specs.declared.Message.{Message}
 use Rattle.message.specs.Seen.{seen_account, seen_message}
 use Rattle.records.specs.Records.{message_at}
 use Rattle.queues.specs.Look.{owned_by, seat_of, row_of}
@@ -13,28 +12,11 @@ abbrev pub queued_in : (owner accounts ns x : List ℕ) → ℕ
 queued_in owner accounts ns x = owned_by owner (get_or ns 2 0) (seat_of accounts (get_or ns 3 0) x)
 
 -- the account at a place below the accounts held
-abbrev pub account_found : (accounts ns : List ℕ) → ℕ → SeenAccount
+abbrev pub account_found : (accounts ns : List ℕ) → ℕ → Option (List ℕ)
 account_found accounts ns p = seen_account (cond (ltb p (get_or ns 3 0)) (some (row_at accounts p)) none)
 
 -- the message in the k-th row of place p
-abbrev pub message_found : (owner kind form time address hash ns : List ℕ) (p k : ℕ) → SeenMessage
+abbrev pub message_found : (owner kind form time address hash ns : List ℕ) (p k : ℕ) → Option Message
 message_found owner kind form time address hash ns p k =
     let row = row_of owner (get_or ns 2 0) p k in
     seen_message (cond (ltb row (get_or ns 2 0)) (some (message_at kind form time address hash row)) none)
-
--- ---- the rows that the numbers speak of are there; the columns' lengths stand as numbers
-
-pub record AccountsIn (accounts : ℕ) (ns : List ℕ) : Type 0 where
-  pub many : length ns ≡ 528
-  pub few : get_or ns 3 0 ≤ 256
-  pub account : accounts ≡ 16384
-
-pub record MessagesIn (owners kinds forms times addresses hashes : ℕ) (ns : List ℕ) : Type 0 where
-  pub many : length ns ≡ 528
-  pub few : get_or ns 2 0 ≤ 1024
-  pub owner : owners ≡ 2048
-  pub kind : kinds ≡ 2048
-  pub form : forms ≡ 2048
-  pub time : times ≡ 2048
-  pub address : addresses ≡ 65536
-  pub hash : hashes ≡ 65536

@@ -3,9 +3,9 @@
 #![tactic(auto)]
 
 ghost use Rattle.std.specs.Prelude.{◌≡◌, ◌≤◌, length, get_or};
-ghost use Rattle.buffer_seen.specs.Lent.{queued_in, account_found, message_found, AccountsIn, MessagesIn};
+ghost use Rattle.buffer_seen.specs.Lent.{queued_in, account_found, message_found};
 
-use message::{SeenAccount, SeenMessage};
+use message::Message;
 
 // How many messages the queue of an account holds; 0 if it has none.
 pub fn account_messages_count(
@@ -14,30 +14,24 @@ pub fn account_messages_count(
     numbers: &[u64; 528],
     name: [u8; 32],
 ) -> usize
-    requires { AccountsIn (length accounts.now) numbers.now × (get_or numbers.now 2 0 ≤ length owner.now) }
+    requires { (get_or numbers.now 3 0 ≤ 256) × (get_or numbers.now 2 0 ≤ length owner.now) }
     ensures { result ≡ queued_in owner.now accounts.now numbers.now name }
 {
-    let x = name;
     let held = numbers[2] as usize;
     let places = numbers[3] as usize;
-    queues::queued(owner, held, accounts, places, &x)
+    queues::queued(owner, held, accounts, places, &name)
 }
 
 // The account at a place of the order; none past the end.
-pub fn account_at(accounts: &[u8; 16384], numbers: &[u64; 528], place: u16) -> SeenAccount
-    requires { AccountsIn (length accounts.now) numbers.now }
+pub fn account_at(accounts: &[u8; 16384], numbers: &[u64; 528], place: u16) -> Option<[u8; 32]>
+    requires { get_or numbers.now 3 0 ≤ 256 }
     ensures { result ≡ account_found accounts.now numbers.now place }
 {
-    let p = numbers::wide16(place);
+    let p = usize::from(place);
     if p < numbers[3] as usize {
-        return SeenAccount {
-            found: true,
-            account: rows::get_row(accounts, p),
-        };
-    }
-    SeenAccount {
-        found: false,
-        account: [0u8; 32],
+        Some(rows::get_row(accounts, p))
+    } else {
+        None
     }
 }
 
@@ -52,20 +46,15 @@ pub fn message_at(
     numbers: &[u64; 528],
     place: u16,
     position: usize,
-) -> SeenMessage
-    requires { MessagesIn (length owner.now) (length kind.now) (length form.now) (length time.now) (length address.now) (length hash.now) numbers.now }
+) -> Option<Message>
+    requires { get_or numbers.now 2 0 ≤ 1024 }
     ensures { result ≡ message_found owner.now kind.now form.now time.now address.now hash.now numbers.now place position }
 {
     let n = numbers[2] as usize;
     let row = queues::row_of(owner, n, place, position);
     if row < n {
-        return SeenMessage {
-            found: true,
-            message: records::message_at(kind, form, time, address, hash, row),
-        };
-    }
-    SeenMessage {
-        found: false,
-        message: message::blank(),
+        Some(records::message_at(kind, form, time, address, hash, row))
+    } else {
+        None
     }
 }

@@ -1,5 +1,5 @@
 // The walk of a buffer in order: the account at a place, the message at a position of its queue; and how many messages an account has. Each is
-// a read of crate `buffer_seen` on copies of the columns that it needs.
+// a read of crate `buffer_seen` on the columns that it needs.
 #![tactic(auto)]
 
 ghost use Rattle.std.specs.Prelude.{◌≡◌};
@@ -10,7 +10,7 @@ ghost use Rattle.queues.specs.Meant.{meant};
 ghost use Rattle.buffers.specs.Buffers.{cols_of, GoodBuffer};
 
 use buffers::buffer::Buffer;
-use message::{SeenAccount, SeenMessage};
+use message::Message;
 use numbers::Place;
 
 // How many messages the queue of an account holds; 0 if it has none.
@@ -18,35 +18,31 @@ pub fn account_messages_count(buffer: Buffer, name: [u8; 32]) -> usize
     requires { GoodBuffer buffer }
     ensures { result ≡ queued_of Real name (meant (cols_of buffer)).now }
 {
-    let owner = buffer.owner;
-    let accounts = buffer.accounts;
-    let numbers = buffer.numbers;
-    buffer_seen::account_messages_count(&owner, &accounts, &numbers, name)
+    buffer_seen::account_messages_count(&buffer.owner, &buffer.accounts, &buffer.numbers, name)
 }
 
 // The account at a place of the order; none past the end.
-pub fn account_at(buffer: Buffer, place: Place) -> SeenAccount
+pub fn account_at(buffer: Buffer, place: Place) -> Option<[u8; 32]>
     requires { GoodBuffer buffer }
     ensures { result ≡ seen_account (account_at Real place.0 (meant (cols_of buffer)).now) }
 {
-    let accounts = buffer.accounts;
-    let numbers = buffer.numbers;
-    buffer_seen::account_at(&accounts, &numbers, place.0)
+    buffer_seen::account_at(&buffer.accounts, &buffer.numbers, place.0)
 }
 
 // The message at a position of the queue at a place of the order; none past either end.
-pub fn message_at(buffer: Buffer, place: Place, position: usize) -> SeenMessage
+pub fn message_at(buffer: Buffer, place: Place, position: usize) -> Option<Message>
     requires { GoodBuffer buffer }
     ensures { result ≡ seen_message (message_at Real place.0 position (meant (cols_of buffer)).now) }
 {
-    let owner = buffer.owner;
-    let kind = buffer.kind;
-    let form = buffer.form;
-    let time = buffer.time;
-    let address = buffer.address;
-    let hash = buffer.hash;
-    let numbers = buffer.numbers;
     buffer_seen::message_at(
-        &owner, &kind, &form, &time, &address, &hash, &numbers, place.0, position,
+        &buffer.owner,
+        &buffer.kind,
+        &buffer.form,
+        &buffer.time,
+        &buffer.address,
+        &buffer.hash,
+        &buffer.numbers,
+        place.0,
+        position,
     )
 }

@@ -7,6 +7,7 @@ use Prim.Native.Nat.{ℕ, zero, suc, ◌≤◌, ◌<◌}
 use native.Mathlib.Nat.{not-suc-le-zero}
 use native.Mathlib.Omega.{arith}
 use lib.ListN.{length, get_or, replicate, length-replicate, get_or-replicate}
+use Rattle.std.specs.Prelude.{Err}
 use Rattle.numbers.proofs.Bytes.{by_bool}
 use Rattle.columns.specs.Lists.{tab_i}
 use Rattle.columns.specs.Rows.{rows_of}
@@ -16,7 +17,8 @@ use Rattle.rules.specs.Queues.{all_msgs, internals, externals, held_ints, held_e
 use Rattle.rules.specs.Calls.{answer, within, no_messages, set_up_buffer}
 use Rattle.demands.proofs.TidyBuffer.{buffer_none}
 use Rattle.demands.proofs.Fits.{in_range}
-use Rattle.message.specs.declared.Code.TheVariants.{Done, SetUp}
+use Rattle.message.specs.Answers.{Done}
+use Rattle.message.specs.declared.Refusal.TheVariants.{SetUp}
 use Rattle.message.specs.Real.{Real}
 use Rattle.message.proofs.Real.{real_lawful}
 use Rattle.queues.specs.Cols.{Cols, Half, live, kept, number}
@@ -116,12 +118,12 @@ module _ (m a : ℕ) (b : Buffer) where
         exactly = ap (left Done) e ∙ rw (p, q);
       }
 
-  set_up_refused : (within 1 1024 m && within 1 256 a) ≡ false → cols_of b ≡ fresh_c 1 1 → Gives (set_up_buffer Real m a) (set_up_c m a) SetUp b
+  set_up_refused : (within 1 1024 m && within 1 256 a) ≡ false → cols_of b ≡ fresh_c 1 1 → Gives (set_up_buffer Real m a) (set_up_c m a) (Err SetUp) b
   unfolding set_up_c set_up_buffer answer first_of
   set_up_refused f e = record {
     good = subst Good (sym e) (fresh_good 1 1 (omega arith) (omega arith) (omega arith) (omega arith));
-    ruled = ap (λ (c : Cols). answer_of (left SetUp c)) e ∙ rw (f, means 1 1);
-    exactly = ap (left SetUp) e ∙ rw f;
+    ruled = ap (λ (c : Cols). answer_of (left (Err SetUp) c)) e ∙ rw (f, means 1 1);
+    exactly = ap (left (Err SetUp)) e ∙ rw f;
   }
 
   sized : cols_of b ≡ fresh_c (size_for m a).messages (size_for m a).accounts → Gives (set_up_buffer Real m a) (set_up_c m a) (size_for m a).code b

@@ -1,9 +1,9 @@
 -- What the public contracts of a buffer cite: its columns, when it is well formed, and what a call gives. Assumes nothing.
-use Rattle.std.specs.Prelude.{◌≡◌, cond, ◌&&◌, ◌∷◌, ℕ, replicate}
+use Rattle.std.specs.Prelude.{◌≡◌, cond, ◌&&◌, ◌∷◌, ℕ, replicate, Err}
 use Rattle.rules.specs.Calls as calls
 use Rattle.rules.specs.Calls.{Store}
-use Rattle.message.specs.declared.Code.{Code}
-use Rattle.message.specs.declared.Code.TheVariants.{Done, SetUp}
+use Rattle.message.specs.Answers.{Code, Done}
+use Rattle.message.specs.declared.Refusal.TheVariants.{SetUp}
 use Rattle.message.specs.Real.{Real}
 use Rattle.queues.specs.Cols.{Cols, cols}
 use Rattle.queues.specs.Meant.{meant}
@@ -35,4 +35,4 @@ fresh_c m a =
 
 -- "M messages (1 to 1,024) and A accounts (1 to 256)"; "a refused set-up gives a fresh one of size 1"
 unfoldable pub set_up_c : (m a : ℕ) → Left
-set_up_c m a = cond (calls.within 1 1024 m && calls.within 1 256 a) (left Done (fresh_c m a)) (left SetUp (fresh_c 1 1))
+set_up_c m a = cond (calls.within 1 1024 m && calls.within 1 256 a) (left Done (fresh_c m a)) (left (Err SetUp) (fresh_c 1 1))

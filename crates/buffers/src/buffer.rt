@@ -1,4 +1,4 @@
-// The buffer: set up, and read. What is read off it is read by crate `buffer_reads`, on a copy of its numbers.
+// The buffer: set up, and read. What is read off it is read by crate `buffer_reads`, off its numbers.
 ghost use Rattle.std.specs.Prelude.{◌≡◌};
 ghost use Rattle.rules.specs.World.{least_read};
 ghost use Rattle.rules.specs.Calls.{is_open, set_up_buffer};
@@ -24,6 +24,7 @@ pub struct Buffer {
 }
 
 // What a call answers: its code, and the buffer afterwards.
+// stays: what may not change: a refused call gives back what it was handed (`Gives`), so the buffer stands beside the code.
 #[derive(Clone, Copy)]
 pub struct Answer {
     pub code: Code,
@@ -57,9 +58,8 @@ impl Buffer {
         ensures { Gives (set_up_buffer Real m a) (set_up_c m a) result.code result.buffer }
     {
         let size = sizes::size_for(m, a);
-        let code = size.code;
         Answer {
-            code,
+            code: size.code,
             buffer: fresh(size.messages, size.accounts),
         }
     }
@@ -71,8 +71,7 @@ impl Buffer {
         requires { GoodBuffer self }
         ensures { result ≡ counts_of (meant (cols_of self)) }
     {
-        let numbers = self.numbers;
-        held::counts(&numbers)
+        held::counts(&self.numbers)
     }
 
     // Whether there is a minimum chain time.
@@ -80,8 +79,7 @@ impl Buffer {
         requires { GoodBuffer self }
         ensures { result ≡ is_open (meant (cols_of self)).now.least }
     {
-        let numbers = self.numbers;
-        held::has_min_ext_chain_time(&numbers)
+        held::has_min_ext_chain_time(&self.numbers)
     }
 
     // The minimum chain time; absent reads as 2^64 - 1.
@@ -89,8 +87,7 @@ impl Buffer {
         requires { GoodBuffer self }
         ensures { result ≡ least_read (meant (cols_of self)).now.least }
     {
-        let numbers = self.numbers;
-        held::min_ext_chain_time(&numbers)
+        held::min_ext_chain_time(&self.numbers)
     }
 
     // Whether a transaction is open.
@@ -98,8 +95,7 @@ impl Buffer {
         requires { GoodBuffer self }
         ensures { result ≡ is_open (meant (cols_of self)).kept }
     {
-        let numbers = self.numbers;
-        held::in_tx(&numbers)
+        held::in_tx(&self.numbers)
     }
 
     // Whether the buffer is filled: by count, when it holds at least `limit` messages; by slots, never.
@@ -107,7 +103,6 @@ impl Buffer {
         requires { GoodBuffer self }
         ensures { result ≡ filled_by limit (meant (cols_of self)).now }
     {
-        let numbers = self.numbers;
-        held::check_is_filled(&numbers, limit)
+        held::check_is_filled(&self.numbers, limit)
     }
 }

@@ -3,7 +3,7 @@
 use mathlib.Core.Path.{◌≡◌, sym, ap, subst, ◌∙◌}
 use Rattle.rules.specs.Calls as calls
 use Rattle.rules.specs.Calls.{Store}
-use Rattle.message.specs.declared.Code.{Code}
+use Rattle.message.specs.Answers.{Code}
 use Rattle.message.specs.Real.{Real}
 use Rattle.queues.specs.Good.{Good}
 use Rattle.queues.specs.Append.{Left, left}

@@ -1,4 +1,4 @@
-// The calls by value that change a buffer. Its columns are lent to one core, which copies nothing large, and put together again.
+// The calls by value that change a buffer. Its columns are lent to one core, which copies nothing large.
 #![tactic(auto)]
 
 ghost use Rattle.std.specs.Prelude.{length, ◌/◌};
@@ -19,38 +19,21 @@ pub fn add(buffer: Buffer, m: Message) -> Answer
     requires { GoodBuffer buffer }
     ensures { Gives (add_message Real (offer m) (meant (cols_of buffer))) (add_c m (cols_of buffer)) result.code result.buffer }
 {
-    let mut owner = buffer.owner;
-    let mut kind = buffer.kind;
-    let mut form = buffer.form;
-    let mut time = buffer.time;
-    let mut address = buffer.address;
-    let mut hash = buffer.hash;
-    let mut accounts = buffer.accounts;
-    let mut numbers = buffer.numbers;
+    let mut after = buffer;
     let code = append::add(
         m,
-        &mut owner,
-        &mut kind,
-        &mut form,
-        &mut time,
-        &mut address,
-        &mut hash,
-        &mut accounts,
-        &mut numbers,
+        &mut after.owner,
+        &mut after.kind,
+        &mut after.form,
+        &mut after.time,
+        &mut after.address,
+        &mut after.hash,
+        &mut after.accounts,
+        &mut after.numbers,
     );
-    let added = Buffer {
-        owner,
-        kind,
-        form,
-        time,
-        address,
-        hash,
-        accounts,
-        numbers,
-    };
     Answer {
         code,
-        buffer: added,
+        buffer: after,
     }
 }
 
@@ -60,38 +43,21 @@ pub fn remove(buffer: Buffer, names: &[u8]) -> Answer
     requires { GoodBuffer buffer }
     ensures { Gives (remove_accounts Real (rows_of (length names.now / 32) names.now) (meant (cols_of buffer))) (remove_c names.now (cols_of buffer)) result.code result.buffer }
 {
-    let mut owner = buffer.owner;
-    let mut kind = buffer.kind;
-    let mut form = buffer.form;
-    let mut time = buffer.time;
-    let mut address = buffer.address;
-    let mut hash = buffer.hash;
-    let mut accounts = buffer.accounts;
-    let mut numbers = buffer.numbers;
+    let mut after = buffer;
     let code = removal::remove(
         names,
-        &mut owner,
-        &mut kind,
-        &mut form,
-        &mut time,
-        &mut address,
-        &mut hash,
-        &mut accounts,
-        &mut numbers,
+        &mut after.owner,
+        &mut after.kind,
+        &mut after.form,
+        &mut after.time,
+        &mut after.address,
+        &mut after.hash,
+        &mut after.accounts,
+        &mut after.numbers,
     );
-    let removed = Buffer {
-        owner,
-        kind,
-        form,
-        time,
-        address,
-        hash,
-        accounts,
-        numbers,
-    };
     Answer {
         code,
-        buffer: removed,
+        buffer: after,
     }
 }
 
@@ -100,36 +66,20 @@ pub fn begin(buffer: Buffer) -> Answer
     requires { GoodBuffer buffer }
     ensures { Gives (begin_by Real (meant (cols_of buffer))) (begin_c (cols_of buffer)) result.code result.buffer }
 {
-    let mut owner = buffer.owner;
-    let mut kind = buffer.kind;
-    let mut form = buffer.form;
-    let mut time = buffer.time;
-    let mut address = buffer.address;
-    let mut hash = buffer.hash;
-    let mut accounts = buffer.accounts;
-    let mut numbers = buffer.numbers;
+    let mut after = buffer;
     let code = transactions::begin(
-        &mut owner,
-        &mut kind,
-        &mut form,
-        &mut time,
-        &mut address,
-        &mut hash,
-        &mut accounts,
-        &mut numbers,
+        &mut after.owner,
+        &mut after.kind,
+        &mut after.form,
+        &mut after.time,
+        &mut after.address,
+        &mut after.hash,
+        &mut after.accounts,
+        &mut after.numbers,
     );
     Answer {
         code,
-        buffer: Buffer {
-            owner,
-            kind,
-            form,
-            time,
-            address,
-            hash,
-            accounts,
-            numbers,
-        },
+        buffer: after,
     }
 }
 
@@ -139,9 +89,7 @@ pub fn commit(buffer: Buffer) -> Answer
     ensures { Gives (commit_by Real (meant (cols_of buffer))) (commit_c (cols_of buffer)) result.code result.buffer }
 {
     let mut after = buffer;
-    let mut numbers = buffer.numbers;
-    let code = transactions::commit(&mut numbers);
-    after.numbers = numbers;
+    let code = transactions::commit(&mut after.numbers);
     Answer {
         code,
         buffer: after,
@@ -153,35 +101,19 @@ pub fn rollback(buffer: Buffer) -> Answer
     requires { GoodBuffer buffer }
     ensures { Gives (rollback_by Real (meant (cols_of buffer))) (rollback_c (cols_of buffer)) result.code result.buffer }
 {
-    let mut owner = buffer.owner;
-    let mut kind = buffer.kind;
-    let mut form = buffer.form;
-    let mut time = buffer.time;
-    let mut address = buffer.address;
-    let mut hash = buffer.hash;
-    let mut accounts = buffer.accounts;
-    let mut numbers = buffer.numbers;
+    let mut after = buffer;
     let code = transactions::rollback(
-        &mut owner,
-        &mut kind,
-        &mut form,
-        &mut time,
-        &mut address,
-        &mut hash,
-        &mut accounts,
-        &mut numbers,
+        &mut after.owner,
+        &mut after.kind,
+        &mut after.form,
+        &mut after.time,
+        &mut after.address,
+        &mut after.hash,
+        &mut after.accounts,
+        &mut after.numbers,
     );
     Answer {
         code,
-        buffer: Buffer {
-            owner,
-            kind,
-            form,
-            time,
-            address,
-            hash,
-            accounts,
-            numbers,
-        },
+        buffer: after,
     }
 }

@@ -10,9 +10,9 @@ pub fn clear_slots(n: usize, number: &mut [u16; 64], ints: &mut [u8; 64], exts: 
     requires { InUse n 64 number.old × InUse n 64 ints.old × InUse n 64 exts.old }
     ensures { Clear 64 number.new × Clear 64 ints.new × Clear 64 exts.new }
 {
-    cells::clear_shorts(number, 0, n);
-    cells::clear_bytes(ints, 0, n);
-    cells::clear_bytes(exts, 0, n);
+    cells::clear(number, 0, n, 0);
+    cells::clear(ints, 0, n, 0);
+    cells::clear(exts, 0, n, 0);
 }
 
 // Clears the n accounts in use.
@@ -20,8 +20,8 @@ pub fn clear_accounts(n: usize, accounts: &mut [u8; 32768], home: &mut [u8; 1024
     requires { InUse (32 * n) 32768 accounts.old × InUse n 1024 home.old }
     ensures { Clear 32768 accounts.new × Clear 1024 home.new }
 {
-    cells::clear_bytes(accounts, 0, 32 * n);
-    cells::clear_bytes(home, 0, n);
+    cells::clear(accounts, 0, 32 * n, 0);
+    cells::clear(home, 0, n, 0);
 }
 
 // Clears the n messages in use.
@@ -35,10 +35,10 @@ pub fn clear_messages(
     requires { InUse n 1024 owner.old × InUse n 1024 kind.old × InUse n 1024 form.old × InUse n 1024 time.old }
     ensures { Clear 1024 owner.new × Clear 1024 kind.new × Clear 1024 form.new × Clear 1024 time.new }
 {
-    cells::clear_shorts(owner, 0, n);
-    cells::clear_bytes(kind, 0, n);
-    cells::clear_bytes(form, 0, n);
-    cells::clear_words(time, 0, n);
+    cells::clear(owner, 0, n, 0);
+    cells::clear(kind, 0, n, 0);
+    cells::clear(form, 0, n, 0);
+    cells::clear(time, 0, n, 0);
 }
 
 // Clears the records of the n messages in use.
@@ -46,8 +46,8 @@ pub fn clear_records(n: usize, address: &mut [u8; 32768], hash: &mut [u8; 32768]
     requires { InUse (32 * n) 32768 address.old × InUse (32 * n) 32768 hash.old }
     ensures { Clear 32768 address.new × Clear 32768 hash.new }
 {
-    cells::clear_bytes(address, 0, 32 * n);
-    cells::clear_bytes(hash, 0, 32 * n);
+    cells::clear(address, 0, 32 * n, 0);
+    cells::clear(hash, 0, 32 * n, 0);
 }
 
 // Empties every bucket.
@@ -59,7 +59,6 @@ pub fn clear_buckets(buckets: &mut [u32; 1088])
 
 // Clears the numbers and keeps the first, the room.
 pub fn clear_numbers(numbers: &mut [u64; 16])
-    requires { length numbers.old ≡ 16 }
     ensures { numbers.new ≡ get_or numbers.old 0 0 ∷ replicate 15 0 }
 {
     let room = numbers[0];

@@ -3,33 +3,20 @@
 #![tactic(auto)]
 
 ghost use Rattle.std.specs.Prelude.{◌≡◌, ℕ, ◌*◌, ◌≤◌, ◌<◌, length, get_or};
+ghost use Rattle.columns.specs.Lists.{tab_i};
 ghost use Rattle.columns.specs.Laid.{laid_at};
 ghost use Rattle.columns.specs.Rows.{flat};
-ghost use Rattle.settle.specs.Copies.{Takes, TakesRows, TakesOwners, cells_at, rows_at, seats_at, seated_by, Fields, Bodies, Entered};
+ghost use Rattle.settle.specs.Copies.{Takes, TakesRows, TakesOwners, rows_at, seats_at, seated_by, Fields, Bodies, Entered};
 ghost use Rattle.settle.specs.Ends.{in_counts, MayCount};
 
-// The cells of n rows, which `rows` names from `first` on, go to the cells from `at` on.
-pub fn collect_bytes(from: &[u8], rows: &[u16], first: usize, n: usize, to: &mut [u8], at: usize)
+// The cells of n rows, which `rows` names from `first` on, go to the cells from `at` on. What a cell that is not there would hold does not
+// matter.
+pub fn collect<T: Copy>(from: &[T], rows: &[u16], first: usize, n: usize, to: &mut [T], at: usize)
     requires { Takes first n (length from.now) rows.now at (length to.old) }
-    ensures { to.new ≡ laid_at at (cells_at n first rows.now from.now) to.old }
+    ensures { (none : T) → to.new ≡ laid_at at (tab_i n first (λ k. get_or from.now (get_or rows.now k 0) none)) to.old }
 {
-    let mut k: usize = 0;
-    while k < n {
-        let x: u8 = from[numbers::wide16(rows[first + k])];
-        to[at + k] = x;
-        k += 1;
-    }
-}
-
-pub fn collect_words(from: &[u64], rows: &[u16], first: usize, n: usize, to: &mut [u64], at: usize)
-    requires { Takes first n (length from.now) rows.now at (length to.old) }
-    ensures { to.new ≡ laid_at at (cells_at n first rows.now from.now) to.old }
-{
-    let mut k: usize = 0;
-    while k < n {
-        let x: u64 = from[numbers::wide16(rows[first + k])];
-        to[at + k] = x;
-        k += 1;
+    for k in 0..n {
+        to[at + k] = from[usize::from(rows[first + k])];
     }
 }
 
@@ -38,24 +25,20 @@ pub fn collect_rows(from: &[u8], rows: &[u16], first: usize, n: usize, to: &mut 
     requires { TakesRows first n (length from.now) rows.now at (length to.old) }
     ensures { to.new ≡ laid_at (32 * at) (flat (rows_at n first rows.now from.now)) to.old }
 {
-    let mut k: usize = 0;
-    while k < n {
-        let x = rows::get_row(from, numbers::wide16(rows[first + k]));
+    for k in 0..n {
+        let x = rows::get_row(from, usize::from(rows[first + k]));
         rows::put_row(to, at + k, &x);
-        k += 1;
     }
 }
 
 // The seat of each of the first n members of the group: which of them it is.
 pub fn seat_members(member: &[u16; 1280], n: usize, seat: &mut [u16; 1280])
-    requires n_bound { (n ≤ 1280) × (length member.now ≡ 1280) × (length seat.old ≡ 1280) }
+    requires n_bound { n ≤ 1280 }
     requires by_index { (g : ℕ) → g < n → get_or member.now g 0 < 1280 }
     ensures { seat.new ≡ seated_by n member.now seat.old }
 {
-    let mut g: usize = 0;
-    while g < n {
-        seat[numbers::wide16(member[g])] = g as u16;
-        g += 1;
+    for g in 0..n {
+        seat[usize::from(member[g])] = g as u16;
     }
 }
 
@@ -71,12 +54,9 @@ pub fn collect_owners(
     requires { TakesOwners n owner.now rows.now at (length seat.now) (length to.old) }
     ensures { to.new ≡ laid_at at (seats_at n rows.now owner.now seat.now) to.old }
 {
-    let mut k: usize = 0;
-    while k < n {
-        let o = numbers::wide16(owner[numbers::wide16(rows[k])]);
-        let x: u16 = seat[o - 2048];
-        to[at + k] = x;
-        k += 1;
+    for k in 0..n {
+        let o = usize::from(owner[usize::from(rows[k])]);
+        to[at + k] = seat[o - 2048];
     }
 }
 
@@ -96,9 +76,9 @@ pub fn collect_fields(
     requires form_len { (length form.now ≡ length kind.now) × (length time.now ≡ length kind.now) × (length form2.old ≡ length kind2.old) × (length time2.old ≡ length kind2.old) }
     ensures { Fields n rows.now at kind.now form.now time.now kind2.old form2.old time2.old kind2.new form2.new time2.new }
 {
-    collect_bytes(kind, rows, 0, n, kind2, at);
-    collect_bytes(form, rows, 0, n, form2, at);
-    collect_words(time, rows, 0, n, time2, at);
+    collect(kind, rows, 0, n, kind2, at);
+    collect(form, rows, 0, n, form2, at);
+    collect(time, rows, 0, n, time2, at);
 }
 
 // Address and hash of the rows taken.
@@ -134,7 +114,7 @@ pub fn enter(
     ensures { Entered first n member.now accounts.now home.now accounts2.old home2.old accounts2.new home2.new }
 {
     collect_rows(accounts, member, first, n, accounts2, first);
-    collect_bytes(home, member, first, n, home2, first);
+    collect(home, member, first, n, home2, first);
 }
 
 // The numbers of a group that holds these slots and accounts, and n messages more, `ints` of them internals. Where slots were to be opened,

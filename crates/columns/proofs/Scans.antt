@@ -10,6 +10,8 @@ use native.Mathlib.Numerals.{add-one}
 use native.Mathlib.Omega.{arith}
 use lib.ListN.{length, get_or, take, drop, set, take-append-drop}
 use lib.Seq.{drop-cons, take-suc-set, drop-set-lt, set-get_or}
+use Rattle.std.specs.List.{count_by}
+use Rattle.std.proofs.lemmas.List.Sums.{sum_by-cons}
 use Rattle.columns.specs.Lists.{map_i, count_i}
 
 -- how many turns are left
@@ -29,6 +31,13 @@ module _ {A : Type 0} where
   get_d_map_i g d (suc m) i j k [] e a l = absurd (not-suc-le-zero l)
   get_d_map_i g d (suc m) i zero k (x ∷ xs) e a l = rw (e, add-zero)
   get_d_map_i g d (suc m) i (suc j) k (x ∷ xs) e a l = get_d_map_i g d m (i + 1) j k xs (omega arith) (le_of_suc-le-suc a) (le_of_suc-le-suc l)
+
+  -- what is not among the first m stays
+  pub map_front : (g : ℕ → A → A) (m i : ℕ) (xs : List A) → map_i g m i (take m xs) ++ drop m xs ≡ map_i g m i xs
+  unfolding map_i
+  map_front g zero i xs = refl
+  map_front g (suc m) i [] = refl
+  map_front g (suc m) i (x ∷ xs) = ap (λ (l : List A). g i x ∷ l) (map_front g m (i + 1) xs)
 
   abbrev pub scan : (ℕ → A → A) → ℕ → ℕ → List A → List A
   scan g n i xs = take i xs ++ map_i g (n - i) i (drop i xs)
@@ -61,3 +70,11 @@ module _ {A : Type 0} where
       → count_i h (n - i) i (drop i xs) ≡ cond (h i (get_or xs i d)) 1 0 + count_i h (n - (i + 1)) (i + 1) (drop (i + 1) xs)
   unfolding count_i
   count_step h n i xs d p l = rw (turns n i p, drop-cons xs i d l, ← add-one i)
+
+  -- a test of the element alone is counted over the front, as the library counts
+  pub count_front : (p : A → Bool) (n i : ℕ) (xs : List A) → count_i (λ j x. p x) n i xs ≡ count_by p (take n xs)
+  unfolding count_i
+  count_front p zero i xs = refl
+  count_front p (suc n) i [] = refl
+  count_front p (suc n) i (x ∷ xs) =
+      ap (λ (m : ℕ). cond (p x) 1 0 + m) (count_front p n (i + 1) xs) ∙ sym (sum_by-cons (λ y. cond (p y) 1 0) x (take n xs))

@@ -1,12 +1,6 @@
 -- A column after a copy, a clearing or a packing, as one expression over the column before. Assumes nothing.
-use Rattle.std.specs.Prelude.{◌≡◌, Bool, List, ◌++◌, ℕ, ◌+◌, ◌-◌, ◌≤◌, ◌<◌, ltb, length, get_or, take, drop, replicate}
+use Rattle.std.specs.Prelude.{◌≡◌, Bool, List, ◌++◌, ℕ, ◌+◌, ◌-◌, ltb, length, get_or, take, drop, replicate}
 use Rattle.columns.specs.Lists.{gather, rank}
-
--- n cells can be copied, the first one first: both places lie in the column, and no cell is written over before it is read
-pub record Copies (from to n size : ℕ) : Type 0 where
-  pub source : from + n ≤ size
-  pub target : to + n ≤ size
-  pub ahead : from < to → from + n ≤ to
 
 -- an owner that is a place in the account order, of 256 at most; the marks of messages that are gone lie above
 abbrev pub is_place : ℕ → Bool
@@ -26,6 +20,6 @@ module _ {A : Type 0} where
   packed d t n xs = gather t (λ j. get_or xs j d) n 0 ++ (replicate (n - rank t n) d ++ drop n xs)
 
 -- what a packing leaves: how many were kept, and the column
-pub record Packs (t : ℕ → Bool) (n : ℕ) (made : List ℕ) (col : List ℕ) (r : ℕ) : Type 0 where
+pub record Packs {A : Type 0} (t : ℕ → Bool) (n : ℕ) (made : List A) (col : List A) (r : ℕ) : Type 0 where
   pub count : r ≡ rank t n
   pub cells : col ≡ made

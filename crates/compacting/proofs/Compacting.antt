@@ -11,27 +11,6 @@ use Rattle.columns.proofs.Scans.{length_map_i}
 use Rattle.queues.specs.Cols.{Cols}
 use Rattle.queues.specs.Compact.{new_place, moved_c, packed_c, compact_c, Compacted}
 
--- n cells and n rows lie in the live half of a column, a rows in that of the accounts, and a seats in their table
-pub cells_fit : (n l : ℕ) → n ≤ 1024 → l ≡ 2048 → n ≤ l
-cells_fit n l h e = omega arith
-
-pub rows_fit : (n l : ℕ) → n ≤ 1024 → l ≡ 65536 → 32 * n ≤ l
-rows_fit n l h e = omega arith
-
-pub places_fit : (a l : ℕ) → a ≤ 256 → l ≡ 16384 → 32 * a ≤ l
-places_fit a l h e = omega arith
-
-pub seats_fit : (a l : ℕ) → a ≤ 256 → l ≡ 256 → a ≤ l
-seats_fit a l h e = omega arith
-
-pub length_moved : (n : ℕ) (seats owner : List ℕ) → length (moved_c n seats owner) ≡ length owner
-unfolding moved_c
-length_moved n seats owner = length_map_i (new_place seats) n 0 owner
-
--- so the owners keep their number
-pub owners_kept : (n : ℕ) (seats owner owner' : List ℕ) → owner' ≡ moved_c n seats owner → length owner ≡ 2048 → length owner' ≡ 2048
-owners_kept n seats owner owner' e h = ap length e ∙ length_moved n seats owner ∙ h
-
 module _ (n a : ℕ) (seats : List ℕ) (c₀ c : Cols) {r rk rf rt ra rh rp : ℕ} {owner : List ℕ} where
   pub compacted : owner ≡ moved_c n seats c₀.owner
       → Packs (held owner) n (packed 0 (held owner) n c₀.kind) c.kind rk

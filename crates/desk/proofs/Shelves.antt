@@ -2,7 +2,7 @@
 use mathlib.Core.Path.{◌≡◌, refl, subst}
 use Prim.Native.Nat.{ℕ, zero, suc}
 use Rattle.std.specs.Prelude.{◌≢◌}
-use Rattle.message.specs.declared.Code.{Code}
+use Rattle.message.specs.Answers.{Code}
 use Rattle.lintelsong.specs.declared.Group.{Group}
 use Rattle.lintelsong.specs.Closed.{Joins}
 use Rattle.desk.specs.declared.shelf.Shelf.{Shelf}

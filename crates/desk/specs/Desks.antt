@@ -6,10 +6,6 @@ use Rattle.desk.specs.declared.tray.Tray.{Tray}
 
 pub record GoodTray (t : Tray) : Type 0 where
   pub set : GoodSet t.skipped
-  -- the columns of the skip rows
-  pub names_long : length t.names ≡ 9600
-  pub verdicts_long : length t.verdicts ≡ 300
-  pub costs_long : length t.costs ≡ 300
   pub few : t.rows ≤ 300
   pub short : t.keys ≤ 2048
 

@@ -1,7 +1,6 @@
 -- What stands on a shelf, and what an order leaves of it. Assumes nothing.
 use Rattle.std.specs.Prelude.{◌≡◌, ℕ, zero, suc, ◌+◌, ◌-◌, cond, ltb}
-use Rattle.message.specs.declared.Code.{Code}
-use Rattle.message.specs.Answers.{number as number_of}
+use Rattle.message.specs.Answers.{Code, number as number_of}
 use Rattle.lintelsong.specs.Closed.{SetsUp, Joins}
 use Rattle.lintelsong.specs.declared.Group.{Group}
 use Rattle.lintelsong.specs.declared.Skipped.{Skipped}

@@ -19,9 +19,7 @@ pub struct Done {
 pub fn fresh() -> Buffer
     ensures { GoodBuffer result }
 {
-    let a = Buffer::set_up(1, 1);
-    let b = a.buffer;
-    b
+    Buffer::set_up(1, 1).buffer
 }
 
 // The message of a record.
@@ -68,16 +66,11 @@ pub fn repeat(b: Buffer, times: u64, o: BufferOrder, numbers: &[u64], n: usize) 
     ensures { GoodBuffer result.buffer }
 {
     let mut a = obey(b, o, numbers, n);
-    let mut count: u64 = 1;
-    while count < times {
-        let now = a.buffer;
-        a = obey(now, o, numbers, n);
-        count += 1;
+    for _ in 1..times {
+        a = obey(a.buffer, o, numbers, n);
     }
-    let code = a.code;
-    let buffer = a.buffer;
     Done {
-        buffer,
-        reply: Reply::Code(message::number_of(code)),
+        buffer: a.buffer,
+        reply: Reply::Code(message::number_of(a.code)),
     }
 }

@@ -65,9 +65,8 @@ fn once(
     *b = a.buffer;
     *g = a.group;
     t.skipped = a.skipped;
-    let code = a.code;
     Reply::Fill(
-        message::number_of(code),
+        message::number_of(a.code),
         a.collected,
         a.operations,
         a.dropped,
@@ -89,10 +88,8 @@ fn repeated(
     ensures laid { Laid t.old t.new }
 {
     let mut reply = once(b, g, t, ask, lts, hashes);
-    let mut count: u64 = 1;
-    while count < times {
+    for _ in 1..times {
         reply = once(b, g, t, ask, lts, hashes);
-        count += 1;
     }
     reply
 }
@@ -120,6 +117,7 @@ pub fn repeat_on(
 }
 
 // The same of the three by value.
+// stays: what may not change: this is public and keeps its contract, a call of `repeat_on`.
 pub fn repeat(
     b: Buffer,
     s: Shelf,

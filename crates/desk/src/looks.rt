@@ -28,10 +28,10 @@ pub fn answer(b: Buffer, s: Shelf, o: Look, text: &mut [u8]) -> Reply
     requires { GoodBuffer b × GoodShelf s }
 {
     match o {
-        Look::IsFilled(place, slots, height) => is_filled(shelf::group_at(s, place), slots, height),
+        Look::IsFilled(place, slots, height) => is_filled(shelf::at(&s, place), slots, height),
         Look::Full(limit) => full(b, limit),
         Look::Display(place) => {
-            let g = shelf::group_at(s, place);
+            let g = shelf::at(&s, place);
             Reply::Text(g.display(text))
         }
     }

@@ -1,19 +1,17 @@
 // Accounts that numbers name, laid out 32 bytes each.
 ghost use Rattle.std.specs.Prelude.{◌≡◌, ◌*◌, ◌≤◌, length};
 
-// Writes the names of the first n numbers.
-fn write_names(numbers: &[u64], n: usize, names: &mut [u8])
-    requires { (n ≤ length numbers.now) × (32 * n ≤ length names.old) }
+// Writes the names of numbers.
+fn write_names(numbers: &[u64], names: &mut [u8])
+    requires { 32 * length numbers.now ≤ length names.old }
 {
-    let mut i: usize = 0;
-    while i < n {
-        let name = words::name::name_of(numbers[i]);
-        rows::put_row(names, i, &name);
-        i += 1;
+    for (i, &number) in numbers.iter().enumerate() {
+        rows::put_row(names, i, &words::name::name_of(number));
     }
 }
 
 // Room for the names of as many numbers as a line holds.
+// stays: the rule of fixed memory: there is no heap to lay the names out on.
 pub fn room() -> [u8; 1048576]
     ensures { 1048576 ≡ length result }
 {
@@ -24,16 +22,12 @@ pub fn room() -> [u8; 1048576]
 pub fn lay_out(numbers: &[u64], n: usize, names: &mut [u8]) -> usize
     ensures { result ≤ length names.new }
 {
-    if 32768 < n {
+    if 32768 < n || names.len() < 32 * n {
         return 0;
     }
-    let size = 32 * n;
-    if numbers.len() < n {
+    let Some(numbers) = numbers.get(..n) else {
         return 0;
-    }
-    if names.len() < size {
-        return 0;
-    }
-    write_names(numbers, n, names);
-    size
+    };
+    write_names(numbers, names);
+    32 * n
 }

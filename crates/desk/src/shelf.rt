@@ -20,6 +20,7 @@ pub struct Shelf {
 }
 
 // A shelf, and the answer.
+// stays: what may not change: `repeat` by value answers with both, and keeps its contract.
 #[derive(Clone, Copy)]
 pub struct Kept {
     pub shelf: Shelf,
@@ -30,8 +31,7 @@ pub struct Kept {
 pub fn fresh() -> Shelf
     ensures { GoodShelf result }
 {
-    let a = Group::set_up(1);
-    let g = a.group;
+    let g = Group::set_up(1).group;
     Shelf {
         made: 0,
         first: g,
@@ -109,9 +109,8 @@ fn set_up(s: &mut Shelf, place: usize, slots: u64) -> Reply
     ensures obeyed { Obeyed (SetUp place slots) 1 s.old s.new result }
 {
     let a = Group::set_up(slots);
-    let code = a.code;
     put_new(s, place, a.group);
-    Reply::Code(message::number_of(code))
+    Reply::Code(message::number_of(a.code))
 }
 
 // Joins the right group to the left one so many times, once at least; the answer is the last one.
@@ -121,12 +120,8 @@ fn joined(l: Group, r: Group, times: u64) -> Joined
     ensures joined { JoinsOn (times - 1) l r result.code result.left result.right }
 {
     let mut j = l.join(r);
-    let mut count: u64 = 1;
-    while count < times {
-        let left = j.left;
-        let right = j.right;
-        j = left.join(right);
-        count += 1;
+    for _count in 1..times {
+        j = j.left.join(j.right);
     }
     j
 }
@@ -138,10 +133,9 @@ fn join(s: &mut Shelf, left: usize, right: usize, times: u64) -> Reply
     ensures obeyed { Obeyed (Join left right) times s.old s.new result }
 {
     let j = joined(at(s, left), at(s, right), times);
-    let code = j.code;
     put(s, left, j.left);
     put(s, right, j.right);
-    Reply::Code(message::number_of(code))
+    Reply::Code(message::number_of(j.code))
 }
 
 // Does an order so many times, once at least; the answer is the last one. A set-up done again leaves the same.
@@ -157,6 +151,7 @@ pub fn repeat_on(s: &mut Shelf, times: u64, o: ShelfOrder) -> Reply
 }
 
 // ---- the same of a shelf by value
+// stays: what may not change: `group_at`, `with_group` and `repeat` are public and keep their contracts, each a call of the lent one.
 
 // The group at a place.
 pub fn group_at(s: Shelf, place: usize) -> Group

@@ -6,6 +6,7 @@ use scenario::commands::{SkipRow, TrayOrder};
 
 // Whether states are printed; the skipped set; the skip rows, of which the first `rows` are kept, up to 300; the cost of an account without
 // a row; and how many rows the key list has.
+// stays: the rule of fixed memory: rows are counted beside their arrays, which a fill is lent column by column.
 #[derive(Clone, Copy)]
 pub struct Tray {
     pub loud: bool,
@@ -35,79 +36,56 @@ pub fn fresh() -> Tray
 }
 
 // One more skip row, if fewer than 300 are kept.
-fn row(t: Tray, r: SkipRow) -> Tray
-    requires { GoodTray t }
-    ensures { GoodTray result }
+fn row(t: &mut Tray, r: SkipRow)
+    requires { GoodTray t.old }
+    ensures { GoodTray t.new }
 {
-    let mut after = t;
     let i = t.rows;
     if 300 <= i {
-        return after;
+        return;
     }
-    let name = words::name::name_of(r.account);
-    let mut names = t.names;
-    rows::put_row(&mut names, i, &name);
-    after.names = names;
-    after.verdicts[i] = r.verdict;
-    after.costs[i] = r.cost;
-    after.rows = i + 1;
-    after
-}
-
-// A fresh skipped set.
-fn set(t: Tray) -> Tray
-    requires { GoodTray t }
-    ensures { GoodTray result }
-{
-    let mut after = t;
-    let none = Skipped::fresh();
-    after.skipped = none;
-    after
+    rows::put_row(&mut t.names, i, &words::name::name_of(r.account));
+    t.verdicts[i] = r.verdict;
+    t.costs[i] = r.cost;
+    t.rows = i + 1;
 }
 
 // A key list of n zero rows, up to 2,048.
-fn keys(t: Tray, n: usize, lts: &mut [u64], hashes: &mut [u8]) -> Tray
-    requires { GoodTray t × KeyRoom lts.old hashes.old }
-    ensures { GoodTray result }
+fn keys(t: &mut Tray, n: usize, lts: &mut [u64], hashes: &mut [u8])
+    requires { GoodTray t.old × KeyRoom lts.old hashes.old }
+    ensures { GoodTray t.new }
 {
-    let mut after = t;
     if 2048 < n {
-        return after;
+        return;
     }
-    cells::clear_words(lts, 0, n);
-    cells::clear_bytes(hashes, 0, 32 * n);
-    after.keys = n;
-    after
+    lts[..n].fill(0);
+    hashes[..32 * n].fill(0);
+    t.keys = n;
 }
 
 // Does an order once. Its answer is code 0.
-fn obey(t: Tray, o: TrayOrder, lts: &mut [u64], hashes: &mut [u8]) -> Tray
-    requires { GoodTray t × KeyRoom lts.old hashes.old }
-    ensures { GoodTray result }
+fn obey(t: &mut Tray, o: TrayOrder, lts: &mut [u64], hashes: &mut [u8])
+    requires { GoodTray t.old × KeyRoom lts.old hashes.old }
+    ensures { GoodTray t.new }
 {
-    let mut after = t;
     match o {
-        TrayOrder::Rows => after.rows = 0,
-        TrayOrder::Row(r) => after = row(t, r),
-        TrayOrder::Cost(cost) => after.cost = cost,
-        TrayOrder::Set => after = set(t),
-        TrayOrder::Keys(n) => after = keys(t, n, lts, hashes),
-        TrayOrder::Quiet => after.loud = false,
-        TrayOrder::Loud => after.loud = true,
+        TrayOrder::Rows => t.rows = 0,
+        TrayOrder::Row(r) => row(t, r),
+        TrayOrder::Cost(cost) => t.cost = cost,
+        TrayOrder::Set => t.skipped = Skipped::fresh(),
+        TrayOrder::Keys(n) => keys(t, n, lts, hashes),
+        TrayOrder::Quiet => t.loud = false,
+        TrayOrder::Loud => t.loud = true,
     }
-    after
 }
 
 // Does an order so many times.
-pub fn repeat(t: Tray, times: u64, o: TrayOrder, lts: &mut [u64], hashes: &mut [u8]) -> Tray
+pub fn repeat(mut t: Tray, times: u64, o: TrayOrder, lts: &mut [u64], hashes: &mut [u8]) -> Tray
     requires { GoodTray t × KeyRoom lts.old hashes.old }
     ensures { GoodTray result }
 {
-    let mut after = t;
-    let mut count: u64 = 0;
-    while count < times {
-        after = obey(after, o, lts, hashes);
-        count += 1;
+    for _ in 0..times {
+        obey(&mut t, o, lts, hashes);
     }
-    after
+    t
 }

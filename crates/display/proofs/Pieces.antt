@@ -6,13 +6,20 @@ use Prim.Native.Nat.{ℕ, ◌+◌, ◌≤◌, ◌<◌}
 use native.Mathlib.Nat.{zero-add}
 use native.Mathlib.Omega.{arith}
 use lib.ListN.{length, take, length-append}
-use lib.Seq.{take-add, take-length}
+use lib.Seq.{take-add, take-length, length-take-le, drop-drop}
+use borrow.Rule.Slice.PartMut.{put_mid}
 use borrow.Author.Tests.{le-leb, lt-leb}
 use Rattle.columns.specs.Laid.{laid_at}
 use Rattle.columns.proofs.Laid.{length_laid, take_laid, middle_laid}
 use Rattle.words.specs.Digits.{decimal, Written}
 use Rattle.display.specs.Line.{int_word, ext_word, accounts_word, slots_word, line_of, written}
 use Rattle.display.specs.Pieces.{Puts}
+
+-- a piece copied over a part of a line is laid there
+pub laid_mid : (at n k : ℕ) (col piece : List ℕ) {part : List ℕ} → k ≡ n → n ≤ length piece → part ≡ take n piece
+    → put_mid at k col part ≡ laid_at at (take n piece) col
+unfolding laid_at
+laid_mid at n k col piece many enough e = rw (e, many, length-take-le n piece enough, drop-drop n at col)
 
 -- a piece that was laid behind the first `at` bytes
 pub puts_laid : (piece : List ℕ) (most at : ℕ) (line : List ℕ) → at + length piece ≤ length line → length piece ≤ most

@@ -12,11 +12,7 @@ pub fn lay(col: &mut [u8], at: usize, piece: &[u8], n: usize)
     requires { (at + n ≤ length col.old) × (n ≤ length piece.now) }
     ensures { col.new ≡ laid_at at (take n piece.now) col.old }
 {
-    let mut i: usize = 0;
-    while i < n {
-        col[at + i] = piece[i];
-        i += 1;
-    }
+    col[at..at + n].copy_from_slice(&piece[..n]);
 }
 
 // Puts a word and the digits of n behind the first `at` bytes of a line, and says where the line then ends.
@@ -28,9 +24,7 @@ pub fn put(line: &mut [u8], at: usize, word: &[u8], n: u64) -> usize
     let many = words::decimal::write(n, &mut digits);
     let next = at + word.len();
     lay(line, at, word, word.len());
-    // named as a reference, so that its length is known
-    let written = &digits;
-    lay(line, next, written, many);
+    lay(line, next, &digits, many);
     next + many
 }
 

@@ -1,7 +1,7 @@
 // The end of a fill: the rest of the order is passed over, and the counts are closed.
 #![tactic(auto)]
 
-ghost use Rattle.std.specs.Prelude.{◌≡◌, ◌+◌, ◌-◌, ◌≤◌, length};
+ghost use Rattle.std.specs.Prelude.{◌≡◌, ◌+◌, ◌-◌, ◌≤◌};
 ghost use Rattle.moves.specs.Moves.{costs};
 ghost use Rattle.meaning.specs.Passes.{lapsed_from, sweep_owners, left_c};
 
@@ -20,61 +20,42 @@ const GONE: u16 = 65535;
 fn lapsed(owner: u16, class: u16, from: usize, to: usize) -> bool
     ensures { result ≡ lapsed_from from to owner class }
 {
-    if class == 2 {
-        let place = numbers::wide16(owner);
-        if from <= place {
-            return place < to;
-        }
-    }
-    false
+    let place = usize::from(owner);
+    class == 2 && from <= place && place < to
 }
 
 // The rest of the order, the places from `from` to below `to`, is passed over.
 pub fn sweep(owner: &mut [u16; 1024], plan: &[u16; 2304], rows: usize, from: usize, to: usize)
-    requires { (rows ≤ 1024) × (length owner.old ≡ 1024) }
+    requires { rows ≤ 1024 }
     ensures { owner.new ≡ sweep_owners plan.now rows from to owner.old }
 {
-    let mut i: usize = 0;
-    while i < rows {
+    for i in 0..rows {
         if lapsed(owner[i], plan[i], from, to) {
             owner[i] = GONE;
         }
-        i += 1;
     }
 }
 
 // How many rows are still held: their owner is a place.
 fn count_left(owner: &[u16; 1024], rows: usize, places: usize) -> usize
-    requires { (rows ≤ 1024) × (length owner.now ≡ 1024) }
+    requires { rows ≤ 1024 }
     ensures { result ≡ left_c rows places owner.now }
 {
-    let mut i: usize = 0;
-    let mut count: usize = 0;
-    while i < rows {
-        if numbers::wide16(owner[i]) < places {
-            count += 1;
-        }
-        i += 1;
-    }
-    count
+    owner[..rows]
+        .iter()
+        .filter(|o| usize::from(**o) < places)
+        .count()
 }
 
 // The end: one operation for each account of the order; what is neither held nor taken was dropped.
 pub fn finish(owner: &[u16; 1024], fixed: Fixed, tally: Tally) -> Ended
-    requires rows_bound { (fixed.rows ≤ 1024) × (length owner.now ≡ 1024) }
+    requires rows_bound { fixed.rows ≤ 1024 }
     requires taken_bound { left_c fixed.rows fixed.places owner.now + tally.taken ≤ fixed.rows }
     ensures { (result.tally ≡ costs tally fixed.places) × (result.dropped ≡ fixed.rows - left_c fixed.rows fixed.places owner.now - tally.taken) }
 {
     let left = count_left(owner, fixed.rows, fixed.places);
-    let ops = numbers::saturating_sum(tally.ops, fixed.places as u64);
-    let counts = Tally {
-        joined: tally.joined,
-        accounts: tally.accounts,
-        taken: tally.taken,
-        ops,
-    };
     Ended {
-        tally: counts,
+        tally: tally.spend(fixed.places as u64),
         dropped: fixed.rows - left - tally.taken,
     }
 }

@@ -13,51 +13,43 @@ ghost use Rattle.entry.specs.Entry.{numbered_c, housed_c, Lists};
 // Numbers the n accounts of the group: an account with a place in the order is that place, the g-th of the others 256 + g.
 pub fn number_members(order: &[u8], places: usize, group: &[u8], n: usize, member: &mut [u16; 1280])
     requires places_in_bounds { (32 * places ≤ length order.now) × (32 * n ≤ length group.now) }
-    requires places_bound { (places ≤ 256) × (n ≤ 1024) × (length member.old ≡ 1280) }
+    requires places_bound { (places ≤ 256) × (n ≤ 1024) }
     ensures { member.new ≡ numbered_c order.now places group.now n member.old }
 {
-    let mut g: usize = 0;
-    while g < n {
+    for g in 0..n {
         let x = rows::get_row(group, g);
         let seat = rows::find_row(order, places, &x);
         let party = if seat < places { seat } else { 256 + g };
         member[g] = party as u16;
-        g += 1;
     }
 }
 
 // Gives each member its home: the position of its slot in the group.
 pub fn house(homes: &[u8], n: usize, member: &[u16; 1280], home: &mut [u8; 1280])
-    requires n_in_bounds { (n ≤ length homes.now) × (n ≤ 1280) × (length member.now ≡ 1280) × (length home.old ≡ 1280) }
+    requires n_in_bounds { (n ≤ length homes.now) × (n ≤ 1280) }
     requires by_index { (g : ℕ) → g < n → get_or member.now g 0 < 1280 }
     ensures { home.new ≡ housed_c homes.now member.now n 0 home.old }
 {
-    let mut g: usize = 0;
-    while g < n {
-        let party = numbers::wide16(member[g]);
+    for g in 0..n {
+        let party = usize::from(member[g]);
         home[party] = homes[g];
-        g += 1;
     }
 }
 
 // ---- the slots
 
 // Lists the slots of the buckets below the height, in order, and says how many there are. Behind the entries of a bucket stand marks.
-pub fn list_below(buckets: [u32; 1088], height: usize, listed: &mut [u16; 1024]) -> usize
-    requires { GoodBuckets buckets × (height ≤ 16) × (length listed.old ≡ 1024) }
-    ensures { Lists (joined (take height (index buckets))) listed.old listed.new result }
+pub fn list_below(buckets: &[u32; 1088], height: usize, listed: &mut [u16; 1024]) -> usize
+    requires { GoodBuckets buckets.now × (height ≤ 16) }
+    ensures { Lists (joined (take height (index buckets.now))) listed.old listed.new result }
 {
-    let top = 64 * height;
-    let mut i: usize = 0;
     let mut count: usize = 0;
-    while i < top {
-        let x = buckets[i];
+    for &x in &buckets[..64 * height] {
         let entry = x < buckets::NONE;
         if entry {
             listed[count] = x as u16;
             count += 1;
         }
-        i += 1;
     }
     count
 }

@@ -1,50 +1,33 @@
 // Where the next sheet lies: behind a line `BYTES NAME`, as many bytes long.
-ghost use Rattle.std.specs.Prelude.{◌≡◌, ◌≤◌, ◌<◌, length};
+ghost use Rattle.std.specs.Prelude.{◌≤◌, ◌<◌, IfSome, length};
 
-use words::decimal::Number;
 use words::{cut, decimal};
 
-// Whether there is one, and where it starts and ends.
+// Where a sheet starts and ends.
 #[derive(Clone, Copy)]
 pub struct Frame {
-    pub found: bool,
     pub from: usize,
     pub to: usize,
 }
 
-// There is none up to the end of the text.
-fn none(end: usize) -> Frame
-    ensures { (result.from ≡ end) × (result.to ≡ end) }
-{
-    Frame {
-        found: false,
-        from: end,
-        to: end,
-    }
-}
-
-// The sheet whose line starts at `at`.
-pub fn next(text: &[u8], at: usize) -> Frame
+// The sheet whose line starts at `at`, if there is such a line and as many bytes behind it as it says.
+pub fn next(text: &[u8], at: usize) -> Option<Frame>
     requires { at < length text.now }
-    ensures { (at < result.from) × (result.from ≤ result.to) × (result.to ≤ length text.now) }
+    ensures { IfSome result (λ f. (at < f.from) × (f.from ≤ f.to) × (f.to ≤ length text.now)) }
 {
     let space = cut::until(text, at, b' ');
     let end = cut::until(text, space, b'\n');
     if text.len() <= end {
-        return none(text.len());
+        return None;
     }
     let from = end + 1;
-    let n = decimal::read(&text[at..space]);
-    let Number::Value(size) = n else {
-        return none(text.len());
-    };
+    let size = decimal::read(&text[at..space])?;
     let rest = (text.len() - from) as u64;
     if rest < size {
-        return none(text.len());
+        return None;
     }
-    Frame {
-        found: true,
+    Some(Frame {
         from,
         to: from + size as usize,
-    }
+    })
 }

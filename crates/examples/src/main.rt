@@ -24,15 +24,13 @@ fn all(stdout: Stdout, text: &[u8], out: &mut [u8]) -> io::Result<()>
     requires { 42030 ≤ length out.old }
 {
     let mut at: usize = 0;
+    // stays: no plainer as a `for`: each turn goes on where the sheet before it ends
     while at < text.len() {
-        let f = frame::next(text, at);
-        if !f.found {
+        let Some(f) = frame::next(text, at) else {
             return stdout.write_all(b"no sheet here\n");
-        }
-        let from = f.from;
-        let to = f.to;
-        one(stdout, &text[at..from], &text[from..to], out)?;
-        at = to;
+        };
+        one(stdout, &text[at..f.from], &text[f.from..f.to], out)?;
+        at = f.to;
     }
     Ok(())
 }

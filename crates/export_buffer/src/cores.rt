@@ -75,7 +75,6 @@ pub fn begin(
 }
 
 pub fn commit(numbers: &mut [u64; 528]) -> u8
-    requires { length numbers.old ≡ 528 }
     ensures { Commits result numbers.old numbers.new }
 {
     let code = transactions::commit(numbers);

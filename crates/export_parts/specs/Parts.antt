@@ -1,8 +1,8 @@
 -- What an export is handed and says in numbers: a test, an account, a message. Assumes nothing.
-use Rattle.std.specs.Prelude.{◌≡◌, Bool, true, false, not, List, [], ◌∷◌, ℕ, eqb, length}
+use Rattle.std.specs.Prelude.{◌≡◌, Bool, true, false, not, List, [], ◌∷◌, ℕ, Option, is_some, unwrap_or, eqb, length}
+use Rattle.numbers.specs.Bytes.{zeros}
 use Rattle.message.specs.declared.Message.{Message}
-use Rattle.message.specs.declared.SeenAccount.{SeenAccount}
-use Rattle.message.specs.declared.SeenMessage.{SeenMessage}
+use Rattle.message.specs.Records.{blank_message}
 use Rattle.records.specs.Records.{form_of, form_byte}
 
 -- a test as a number
@@ -27,10 +27,10 @@ pub record Made (m : Message) (to hashed : List ℕ) (sent sort special shape : 
   pub address : length to ≡ 32
   pub hash : length hashed ≡ 32
 
--- an account is told: whether there is one, and its bytes
-pub record Told (r : ℕ) (out : List ℕ) (s : SeenAccount) : Type 0 where
-  pub found : r ≡ bit s.found
-  pub account : out ≡ s.account
+-- an account is told: whether there is one, and its bytes, zeros if there is none
+pub record Told (r : ℕ) (out : List ℕ) (s : Option (List ℕ)) : Type 0 where
+  pub found : r ≡ bit (is_some s)
+  pub account : out ≡ unwrap_or s zeros
 
 -- a message is told: its kind, its mark, its form and its time; its address; its hash
 pub record Tells (m : Message) (facts to hashed : List ℕ) : Type 0 where
@@ -38,7 +38,7 @@ pub record Tells (m : Message) (facts to hashed : List ℕ) : Type 0 where
   pub address : to ≡ m.address
   pub hash : hashed ≡ m.hash
 
--- and whether there is one
-pub record ToldMessage (r : ℕ) (facts to hashed : List ℕ) (s : SeenMessage) : Type 0 where
-  pub found : r ≡ bit s.found
-  pub message : Tells s.message facts to hashed
+-- and whether there is one; if not, the fresh message is told
+pub record ToldMessage (r : ℕ) (facts to hashed : List ℕ) (s : Option Message) : Type 0 where
+  pub found : r ≡ bit (is_some s)
+  pub message : Tells (unwrap_or s blank_message) facts to hashed

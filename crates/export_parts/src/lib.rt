@@ -1,31 +1,17 @@
-// What the exports share: an array whose length is said, a test as a number, a message made of its parts, and an account and a message written
-// out.
+// What the exports share: a test as a number, a message made of its parts, and an account and a message written out, the fresh ones where there
+// are none.
 #![tactic(auto)]
 
-ghost use Rattle.std.specs.Prelude.{◌≡◌, length};
+ghost use Rattle.std.specs.Prelude.{◌≡◌};
 ghost use Rattle.export_parts.specs.Parts.{bit, Made, Told, Tells, ToldMessage};
 
-use message::{Message, SeenAccount, SeenMessage};
-
-// An array of 32 bytes as it is, which says how long it is.
-pub fn whole(x: [u8; 32]) -> [u8; 32]
-    ensures { (result ≡ x) × (length x ≡ 32) }
-{
-    x
-}
+use message::Message;
 
 // A test as a number.
 pub fn bit_of(test: bool) -> u8
     ensures { result ≡ bit test }
 {
-    if test { 1 } else { 0 }
-}
-
-// A byte as a word.
-fn wide(x: u8) -> u64
-    ensures { result ≡ x }
-{
-    x as u64
+    u8::from(test)
 }
 
 // A message of these parts. A mark other than 0 is set; a form other than 0 is not the standard one.
@@ -39,18 +25,13 @@ pub fn message_of(
 ) -> Message
     ensures { Made result to.now hashed.now sent sort special shape }
 {
-    let there = *to;
-    let address = whole(there);
-    let hashes = *hashed;
-    let hash = whole(hashes);
-    let form = records::form_of(shape);
     Message {
         kind: sort,
         special: special != 0,
-        form,
-        address,
+        form: records::form_of(shape),
+        address: *to,
         time: sent,
-        hash,
+        hash: *hashed,
     }
 }
 
@@ -58,35 +39,38 @@ pub fn message_of(
 pub fn tell(m: Message, facts: &mut [u64; 4], to: &mut [u8; 32], hashed: &mut [u8; 32])
     ensures { Tells m facts.new to.new hashed.new }
 {
-    let form = m.form;
-    let shape = records::form_byte(form);
     let special = bit_of(m.special);
-    *facts = [wide(m.kind), wide(special), wide(shape), m.time];
+    let shape = records::form_byte(m.form);
+    *facts = [
+        u64::from(m.kind),
+        u64::from(special),
+        u64::from(shape),
+        m.time,
+    ];
     let address = m.address;
     *to = address;
     let hash = m.hash;
     *hashed = hash;
 }
 
-// Writes an account, and answers whether there is one.
-pub fn tell_account(seen: SeenAccount, out: &mut [u8; 32]) -> u8
+// Writes an account, zeros if there is none, and answers whether there is one.
+pub fn tell_account(seen: Option<[u8; 32]>, out: &mut [u8; 32]) -> u8
     ensures { Told result out.new seen }
 {
-    let account = seen.account;
-    *out = account;
-    bit_of(seen.found)
+    *out = seen.unwrap_or([0u8; 32]);
+    bit_of(seen.is_some())
 }
 
-// Writes the parts of a message, and answers whether there is one.
+// Writes the parts of a message, those of a fresh one if there is none, and answers whether there is one.
 pub fn tell_message(
-    seen: SeenMessage,
+    seen: Option<Message>,
     facts: &mut [u64; 4],
     to: &mut [u8; 32],
     hashed: &mut [u8; 32],
 ) -> u8
     ensures { ToldMessage result facts.new to.new hashed.new seen }
 {
-    let m = seen.message;
+    let m = seen.unwrap_or(message::blank());
     tell(m, facts, to, hashed);
-    bit_of(seen.found)
+    bit_of(seen.is_some())
 }

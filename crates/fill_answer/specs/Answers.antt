@@ -1,6 +1,6 @@
 -- What a fill answers, of the counts that its run ended with, and what stands in numbers of a fill. Assumes nothing.
 use Rattle.std.specs.Prelude.{cond, List, [], ◌∷◌, ℕ, eqb}
-use Rattle.message.specs.declared.Code.{Code}
+use Rattle.message.specs.Answers.{Code}
 use Rattle.message.specs.declared.Filter.{Filter}
 use Rattle.message.specs.declared.Filter.TheVariants.{Off, Below}
 use Rattle.moves.specs.declared.Tally.{Tally}

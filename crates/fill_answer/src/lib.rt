@@ -16,6 +16,7 @@ pub struct Asked {
     pub cost: u64,
 }
 
+// stays: what may not change: a refused fill answers with its counts too (`refused` in `Fills`, crate `fill_rules`), so they stand beside the code.
 // What a fill answers beside what it changes: its code, how many messages it collected, its operations, and how many it dropped.
 #[derive(Clone, Copy)]
 pub struct Answer {
@@ -45,6 +46,7 @@ pub fn counts(a: Answer) -> [u64; 3]
 }
 
 // A filter by two numbers: off if the first is 0, else below the second.
+// stays: the C interface hands a filter over as two numbers.
 pub fn filter_by(filtered: u8, below: u64) -> Filter
     ensures { result ≡ filter_by filtered below }
 {

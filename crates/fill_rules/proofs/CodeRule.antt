@@ -9,6 +9,7 @@ use native.Mathlib.Omega.{arith}
 use lib.Dec.{eqb, ltb}
 use lib.ListN.{length, get_or, take}
 use borrow.Author.Tests.{eq-eqb, ne_eqb, eqb-true, eqb-false, lt-ltb, le-ltb, ltb-false}
+use Rattle.std.specs.Prelude.{Err}
 use Rattle.numbers.proofs.Bytes.{by_bool}
 use Rattle.rules.specs.World.{Skip, at_least0, first_of, joined, keep, some_of}
 use Rattle.rules.specs.Queues as rules
@@ -18,9 +19,8 @@ use Rattle.demands.proofs.Rows.{or_false}
 use Rattle.columns.specs.Lists.{tab_i, count_i}
 use Rattle.columns.proofs.Tabs.{length_tab}
 use Rattle.columns.proofs.Rows.{length_rows}
-use Rattle.message.specs.declared.Code.{Code}
-use Rattle.message.specs.declared.Code.TheVariants.{Done, TooLarge, FewKeys, ManySkips, NumbersUsedUp, Overfull}
-use Rattle.message.specs.Answers.{number as number_of}
+use Rattle.message.specs.declared.Refusal.TheVariants.{TooLarge, FewKeys, ManySkips, NumbersUsedUp, Overfull}
+use Rattle.message.specs.Answers.{Code, Done, number as number_of}
 use Rattle.message.specs.Real.{Real}
 use Rattle.queues.specs.Cols.{live, number}
 use Rattle.queues.specs.Meant.{if_marked, buffer_of}
@@ -84,7 +84,7 @@ skips_are v spoken =
 
 -- the first test that holds
 abbrev code : (b₁ b₂ b₃ b₄ b₅ : Bool) → Code
-code b₁ b₂ b₃ b₄ b₅ = cond b₁ TooLarge (cond b₂ FewKeys (cond b₃ ManySkips (cond b₄ NumbersUsedUp (cond b₅ Overfull Done))))
+code b₁ b₂ b₃ b₄ b₅ = cond b₁ (Err TooLarge) (cond b₂ (Err FewKeys) (cond b₃ (Err ManySkips) (cond b₄ (Err NumbersUsedUp) (cond b₅ (Err Overfull) Done))))
 
 codes : (b₁ b₂ b₃ b₄ b₅ : Bool)
     → number_of (code b₁ b₂ b₃ b₄ b₅) ≡ first_of b₁ 9 (first_of b₂ 10 (first_of b₃ 11 (first_of b₄ 12 (first_of b₅ 13 0))))

@@ -3,9 +3,8 @@ use Rattle.std.specs.Prelude.{◌≡◌, List, [], ℕ, ◌+◌, ◌*◌, ◌≤
 use Rattle.rules.specs.Calls.{FillAnswer, fill_group}
 use Rattle.rules.specs.Demand.{Demand3}
 use Rattle.rules.specs.Fill.{Filled}
-use Rattle.message.specs.declared.Code.{Code}
 use Rattle.message.specs.declared.Filter.{Filter}
-use Rattle.message.specs.Answers.{number as number_of}
+use Rattle.message.specs.Answers.{Code, number as number_of}
 use Rattle.message.specs.Real.{Real}
 use Rattle.columns.specs.Rows.{rows_of}
 use Rattle.queues.specs.Cols.{Cols, live, number}

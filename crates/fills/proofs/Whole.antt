@@ -7,9 +7,8 @@ use native.Mathlib.Nat.{div-add-mod'}
 use native.Mathlib.Omega.{arith}
 use lib.ListN.{length, get_or}
 use Rattle.rules.specs.Fill.{fill_code}
-use Rattle.message.specs.declared.Code.{Code}
 use Rattle.message.specs.declared.Filter.{Filter}
-use Rattle.message.specs.Answers.{number as number_of}
+use Rattle.message.specs.Answers.{Code, number as number_of}
 use Rattle.message.specs.Real.{Real}
 use Rattle.queues.specs.Cols.{Cols, live}
 use Rattle.queues.specs.Meant.{buffer_of}
@@ -79,23 +78,15 @@ called p asked height f names verdicts costs default rows e = record {
 }
 
 module _ {v : Call} {rows : ℕ} (p : Called v rows) where
-  pub may_decide : MayDecide rows v.said.verdicts v.said.k v.buffer.numbers
-      v.group.number v.group.ints v.group.exts v.group.buckets v.group.numbers
-  may_decide =
-      let l = p.group.lengths in
-      record {
-        rows_fit = omega (arith, p.rows_are, p.said.verdicts);
-        held_fits = p.set.few;
-        numbers_long = p.buffer.many;
-        number_long = l.number;
-        ints_long = l.ints;
-        exts_long = l.exts;
-        buckets_good = p.group.buckets;
-        counts_long = l.numbers;
-        few = p.group.S·high;
-        slots_fit = p.group.slots;
-        last_fits = p.group.last;
-      }
+  pub may_decide : MayDecide rows v.said.verdicts v.said.k v.group.buckets v.group.numbers
+  may_decide = record {
+    rows_fit = omega (arith, p.rows_are, p.said.verdicts);
+    held_fits = p.set.few;
+    buckets_good = p.group.buckets;
+    few = p.group.S·high;
+    slots_fit = p.group.slots;
+    last_fits = p.group.last;
+  }
 
   abbrev code_by : (n rows : ℕ) → Code
   code_by n rows =
@@ -121,8 +112,8 @@ pub record Taken (v : Call) (k : Keys) (rows : ℕ) (code : Code) : Type 0 where
 
 -- the code of a call with n key rows is 0
 pub taken : {v : Call} {rows : ℕ} (p : Called v rows) (k : Keys) (n : ℕ) → n ≡ rows_of_keys k → (code : Code) → code ≡ code_by p n rows
-    → (m : ℕ) → m ≡ number_of code → m ≡ 0 → Taken v k rows code
-taken p k n e code d m f z = record { called = p; decided = decided p k n e code d; done = sym f ∙ z }
+    → number_of code ≡ 0 → Taken v k rows code
+taken p k n e code d z = record { called = p; decided = decided p k n e code d; done = z }
 
 module _ {v : Call} {k : Keys} {rows : ℕ} {code : Code} (p : Taken v k rows code) where
   abbrev c : Called v rows
@@ -153,12 +144,10 @@ module _ {v : Call} {k : Keys} {rows : ℕ} {code : Code} (p : Taken v k rows co
     pass_by rows opens =
         pass_w (accounts_of v) (held_of v) (slots_of v) (said_of v.said rows) v.filter v.height opens (count v.group 1) (count v.group 6)
 
-    pub pass_needs : ((length v.buffer.numbers ≡ 528) × (length v.group.numbers ≡ 16)) × MayPassBy rows opens
-    pass_needs = (
-      (c.buffer.many, c.group.lengths.numbers),
-      subst (λ (x : ℕ). MayPassBy x opens) (sym c.rows_are)
-          (subst (λ (x : ℕ). MayPassBy v.said.n x) (sym opens-are) (may_pass v good accepted.slots_fit accepted.last_fits)),
-    )
+    pub pass_needs : MayPassBy rows opens
+    pass_needs =
+        subst (λ (x : ℕ). MayPassBy x opens) (sym c.rows_are)
+        (subst (λ (x : ℕ). MayPassBy v.said.n x) (sym opens-are) (may_pass v good accepted.slots_fit accepted.last_fits))
 
     -- a fill with nothing to do has ended here
     pub stood : idle_c (places v) opens v.height v.filter v.group.buckets ≡ true

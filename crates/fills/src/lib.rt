@@ -57,7 +57,7 @@ pub fn fill(
     let code = refusals::decide(
         asked, height, keys, rows, verdicts, k, numbers, number2, ints2, exts2, cells, numbers2,
     );
-    if message::number_of(code) != 0 {
+    if code.is_err() {
         return Answer {
             code,
             collected: 0,

@@ -1,2 +1,2 @@
--- What the proofs share, with those of the exports: Answers (what a set-up gives; an answer that equals one that is told).
+-- What the proofs share: Answers (what a set-up gives).
 pub mod Answers

@@ -11,9 +11,9 @@ ghost use Rattle.buckets.specs.Cells.{GoodBuckets};
 ghost use Rattle.export_parts.specs.Parts.{bit, Told, ToldMessage};
 ghost use Rattle.group_reads.specs.Shown.{line_for};
 ghost use Rattle.group_reads.specs.Lent.{counts_in, empty_in, filled_in, last_in};
-ghost use Rattle.slots_seen.specs.Slots.{slot_found, entry_in, id_found, SlotsIn};
-ghost use Rattle.accounts_seen.specs.Accounts.{holds, account_found, AccountsIn};
-ghost use Rattle.messages_seen.specs.Messages.{row_for, message_found, MessagesIn};
+ghost use Rattle.slots_seen.specs.Slots.{slot_found, entry_in, id_found};
+ghost use Rattle.accounts_seen.specs.Accounts.{holds, account_found};
+ghost use Rattle.messages_seen.specs.Messages.{row_for, message_found};
 ghost use Rattle.group_parts.specs.Told.{listed, ToldId, ToldSlot};
 ghost use Rattle.group_cores.specs.Told.{SetsUp};
 
@@ -87,7 +87,6 @@ pub fn set_up(
 // ---- what a group holds
 
 pub fn counts(numbers: &[u64; 16], out: &mut [u64; 6]) -> u8
-    requires { length numbers.now ≡ 16 }
     ensures { (result ≡ 0) × (out.new ≡ listed (counts_in numbers.now)) }
 {
     let c = held::counts(numbers);
@@ -96,29 +95,26 @@ pub fn counts(numbers: &[u64; 16], out: &mut [u64; 6]) -> u8
 }
 
 pub fn is_empty(numbers: &[u64; 16]) -> u8
-    requires { length numbers.now ≡ 16 }
     ensures { result ≡ bit (empty_in numbers.now) }
 {
     export_parts::bit_of(held::is_empty(numbers))
 }
 
 pub fn contains_account(accounts: &[u8; 32768], numbers: &[u64; 16], name: &[u8; 32]) -> u8
-    requires { AccountsIn (length accounts.now) numbers.now }
+    requires { get_or numbers.now 2 0 ≤ 1024 }
     ensures { result ≡ bit (holds accounts.now numbers.now name.now) }
 {
-    let x = *name;
-    export_parts::bit_of(accounts_seen::contains_account(accounts, numbers, x))
+    export_parts::bit_of(accounts_seen::contains_account(accounts, numbers, *name))
 }
 
 pub fn check_is_filled(buckets: &[u32; 1088], numbers: &[u64; 16], asked: u64, height: u64) -> u8
-    requires { length numbers.now ≡ 16 }
     ensures { result ≡ bit (filled_in buckets.now numbers.now asked height) }
 {
     export_parts::bit_of(group_shown::check_is_filled(buckets, numbers, asked, height as usize))
 }
 
 pub fn last_slot(numbers: &[u64; 16], out: &mut [u16; 1]) -> u8
-    requires { (length numbers.now ≡ 16) × (get_or numbers.now 6 0 ≤ 65535) }
+    requires { get_or numbers.now 6 0 ≤ 65535 }
     ensures { ToldId result out.new (last_in numbers.now) }
 {
     let last = held::last_slot(numbers);
@@ -126,7 +122,6 @@ pub fn last_slot(numbers: &[u64; 16], out: &mut [u16; 1]) -> u8
 }
 
 pub fn display(numbers: &[u64; 16], out: &mut [u8]) -> u64
-    requires { length numbers.now ≡ 16 }
     ensures { (result ≡ length (line_for (counts_in numbers.now))) × (out.new ≡ written (line_for (counts_in numbers.now)) out.old) }
 {
     group_shown::display(numbers, out) as u64
@@ -142,7 +137,7 @@ pub fn slot_at(
     out: &mut [u64; 3],
     position: u64,
 ) -> u8
-    requires { SlotsIn (length number.now) (length ints.now) (length exts.now) numbers.now }
+    requires { get_or numbers.now 1 0 ≤ 64 }
     ensures { ToldSlot result out.new (slot_found number.now ints.now exts.now numbers.now position) }
 {
     let slot = slots_seen::slot_at(number, ints, exts, numbers, position as usize);
@@ -150,7 +145,7 @@ pub fn slot_at(
 }
 
 pub fn account_at(accounts: &[u8; 32768], numbers: &[u64; 16], out: &mut [u8; 32], k: u64) -> u8
-    requires { AccountsIn (length accounts.now) numbers.now }
+    requires { get_or numbers.now 2 0 ≤ 1024 }
     ensures { Told result out.new (account_found accounts.now numbers.now k) }
 {
     let account = accounts_seen::account_at(accounts, numbers, k as usize);
@@ -165,7 +160,7 @@ pub fn slot_account_at(
     position: u64,
     k: u64,
 ) -> u8
-    requires { AccountsIn (length accounts.now) numbers.now × (length home.now ≡ 1024) }
+    requires { get_or numbers.now 2 0 ≤ 1024 }
     ensures { Told result out.new (account_found accounts.now numbers.now (row_of home.now (get_or numbers.now 2 0) position k)) }
 {
     let account = accounts_seen::slot_account_at(
@@ -193,12 +188,11 @@ pub fn message_at(
     hashed: &mut [u8; 32],
     k: u64,
 ) -> u8
-    requires { AccountsIn (length accounts.now) numbers.now × MessagesIn (length owner.now) (length kind.now) (length form.now) (length time.now) (length address.now) (length hash.now) numbers.now }
+    requires { (get_or numbers.now 2 0 ≤ 1024) × (get_or numbers.now 3 0 ≤ 1024) }
     ensures { ToldMessage result facts.new to.new hashed.new (message_found kind.now form.now time.now address.now hash.now numbers.now (row_for accounts.now owner.now numbers.now name.now k)) }
 {
-    let x = *name;
     let m = messages_seen::message_at(
-        accounts, owner, kind, form, time, address, hash, numbers, x, k as usize,
+        accounts, owner, kind, form, time, address, hash, numbers, *name, k as usize,
     );
     export_parts::tell_message(m, facts, to, hashed)
 }

@@ -1,10 +1,11 @@
-// What the exports of a group share: answers written out in numbers. A test answers 1 or 0.
+// What the exports of a group share: answers written out in numbers, zeros where there is nothing. A test answers 1 or 0.
 #![tactic(auto)]
 
 ghost use Rattle.std.specs.Prelude.{◌≡◌};
 ghost use Rattle.group_parts.specs.Told.{listed, ToldId, ToldSlot};
 
-use group_reads::{Counts, SeenId, SeenSlot};
+use group_reads::{Counts, SeenSlot};
+use numbers::SlotId;
 
 // ---- answers
 
@@ -15,23 +16,26 @@ pub fn tell_counts(c: Counts, out: &mut [u64; 6])
     *out = [c.capacity, c.slots, c.accounts, c.messages, c.ints, c.exts];
 }
 
-// Writes a slot number, and answers whether there is one.
-pub fn tell_id(found: SeenId, out: &mut [u16; 1]) -> u8
+// Writes a slot number, 0 if there is none, and answers whether there is one.
+pub fn tell_id(found: Option<SlotId>, out: &mut [u16; 1]) -> u8
     ensures { ToldId result out.new found }
 {
-    let id = found.id;
+    let id = found.unwrap_or(SlotId(0));
     *out = [id.0];
-    export_parts::bit_of(found.found)
+    export_parts::bit_of(found.is_some())
 }
 
-// Writes a slot's number and counts, and answers whether there is one.
-pub fn tell_slot(found: SeenSlot, out: &mut [u64; 3]) -> u8
+// Writes a slot's number and counts, zeros if there is none, and answers whether there is one.
+pub fn tell_slot(found: Option<SeenSlot>, out: &mut [u64; 3]) -> u8
     ensures { ToldSlot result out.new found }
 {
-    let id = found.id;
-    let number = numbers::wide16(id.0);
-    let ints = numbers::wide8(found.ints);
-    let exts = numbers::wide8(found.exts);
-    *out = [number as u64, ints as u64, exts as u64];
-    export_parts::bit_of(found.found)
+    let slot = found.unwrap_or(SeenSlot {
+        id: SlotId(0),
+        ints: 0,
+        exts: 0,
+    });
+    let ints = u64::from(slot.ints);
+    let exts = u64::from(slot.exts);
+    *out = [u64::from(slot.id.0), ints, exts];
+    export_parts::bit_of(found.is_some())
 }

@@ -1,10 +1,11 @@
 -- What a group holds, read off lent columns. `ns` are the sixteen numbers. Assumes nothing.
-use Rattle.std.specs.Prelude.{Bool, not, ◌&&◌, List, ℕ, eqb, leb, take, get_or}
+use Rattle.std.specs.Prelude.{Bool, ◌&&◌, List, ℕ, Option, eqb, leb, take, get_or}
 use Rattle.rules.specs.World.{is_nil, joined}
 use Rattle.buckets.specs.Cells.{index}
 use Rattle.group_reads.specs.declared.Counts.{Counts}
-use Rattle.group_reads.specs.declared.SeenId.{SeenId}
-use Rattle.group_reads.specs.Shown.{id_of}
+use Rattle.numbers.specs.declared.SlotId.{SlotId}
+use Rattle.queues.specs.Meant.{if_marked}
+use Rattle.group_reads.specs.Shown.{seen_id}
 
 abbrev pub counts_in : List ℕ → Counts
 counts_in ns = record {
@@ -23,6 +24,6 @@ empty_in ns = eqb (get_or ns 1 0) 0
 abbrev pub filled_in : (cells ns : List ℕ) (asked height : ℕ) → Bool
 filled_in cells ns asked height = leb asked (get_or ns 1 0) && is_nil (joined (take height (index cells)))
 
--- a mark, and the number beside it
-abbrev pub last_in : List ℕ → SeenId
-last_in ns = record { found = not (eqb (get_or ns 7 0) 0); id = id_of (get_or ns 6 0) }
+-- the number beside a mark, if it is set
+abbrev pub last_in : List ℕ → Option SlotId
+last_in ns = seen_id (if_marked (get_or ns 7 0) (get_or ns 6 0))

@@ -1,6 +1,7 @@
 -- What is read off a group of the rules, as the values that a read gives; the public contracts cite it. Assumes nothing.
-use Rattle.std.specs.Prelude.{◌≡◌, true, false, List, [], ℕ, length}
-use Rattle.std.proofs.Math.Option.{Option, none, some}
+use Rattle.std.specs.Prelude.{◌≡◌, List, [], ℕ, Option, None, Some, length}
+use Rattle.std.proofs.Math.Option as rules
+use Rattle.std.proofs.Math.Option.{none, some}
 use Rattle.numbers.specs.declared.SlotId.{SlotId}
 use Rattle.rules.specs.World as world
 use Rattle.rules.specs.Queues.{all_msgs}
@@ -10,7 +11,6 @@ use Rattle.message.specs.Real.{Real}
 use Rattle.display.specs.Line.{line_of, written}
 use Rattle.group_reads.specs.declared.Counts.{Counts}
 use Rattle.group_reads.specs.declared.SeenSlot.{SeenSlot}
-use Rattle.group_reads.specs.declared.SeenId.{SeenId}
 
 abbrev pub counts_of : Target Real → Counts
 counts_of t = record {
@@ -25,15 +25,15 @@ counts_of t = record {
 abbrev pub id_of : ℕ → SlotId
 id_of n = record { 0 = n }
 
-abbrev pub seen_id : Option ℕ → SeenId
-seen_id none = record { found = false; id = id_of 0 }
-seen_id (some n) = record { found = true; id = id_of n }
+abbrev pub seen_id : rules.Option ℕ → Option SlotId
+seen_id none = None
+seen_id (some n) = Some (id_of n)
 
-abbrev pub seen_slot : Option (world.Slot Real) → SeenSlot
-seen_slot none = record { found = false; id = id_of 0; ints = 0; exts = 0 }
-seen_slot (some s) = record { found = true; id = id_of s.number; ints = s.ints; exts = s.exts }
+abbrev pub seen_slot : rules.Option (world.Slot Real) → Option SeenSlot
+seen_slot none = None
+seen_slot (some s) = Some (record { id = id_of s.number; ints = s.ints; exts = s.exts })
 
-abbrev pub accounts_at : Option (world.Slot Real) → List (List ℕ)
+abbrev pub accounts_at : rules.Option (world.Slot Real) → List (List ℕ)
 accounts_at none = []
 accounts_at (some s) = s.accounts
 

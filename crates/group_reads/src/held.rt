@@ -1,13 +1,12 @@
 // What a group holds, read off its numbers: its counts, whether it is empty, the last slot number.
-ghost use Rattle.std.specs.Prelude.{◌≡◌, ◌≤◌, length, get_or};
+ghost use Rattle.std.specs.Prelude.{◌≡◌, ◌≤◌, get_or};
 ghost use Rattle.group_reads.specs.Lent.{counts_in, empty_in, last_in};
 
-use crate::{Counts, SeenId};
+use crate::Counts;
 use numbers::SlotId;
 
 // The room of the group and what it holds.
 pub fn counts(numbers: &[u64; 16]) -> Counts
-    requires { length numbers.now ≡ 16 }
     ensures { result ≡ counts_in numbers.now }
 {
     Counts {
@@ -22,21 +21,21 @@ pub fn counts(numbers: &[u64; 16]) -> Counts
 
 // Whether it has no slot.
 pub fn is_empty(numbers: &[u64; 16]) -> bool
-    requires { length numbers.now ≡ 16 }
     ensures { result ≡ empty_in numbers.now }
 {
     let slots = numbers[1];
     slots == 0
 }
 
-// The last slot number that was given; it is not the number of slots.
-pub fn last_slot(numbers: &[u64; 16]) -> SeenId
-    requires { (length numbers.now ≡ 16) × (get_or numbers.now 6 0 ≤ 65535) }
+// The last slot number that was given, if any was; it is not the number of slots.
+pub fn last_slot(numbers: &[u64; 16]) -> Option<SlotId>
+    requires { get_or numbers.now 6 0 ≤ 65535 }
     ensures { result ≡ last_in numbers.now }
 {
-    let last = numbers[6];
-    SeenId {
-        found: numbers[7] != 0,
-        id: SlotId(last as u16),
+    if numbers[7] != 0 {
+        let last = numbers[6];
+        Some(SlotId(last as u16))
+    } else {
+        None
     }
 }

@@ -17,17 +17,9 @@ pub struct Counts {
     pub exts: u64,
 }
 
-// A slot number, if there is one.
-#[derive(Clone, Copy)]
-pub struct SeenId {
-    pub found: bool,
-    pub id: SlotId,
-}
-
-// The slot at a position, if there is one: its number and its counts.
+// The slot at a position: its number and its counts.
 #[derive(Clone, Copy)]
 pub struct SeenSlot {
-    pub found: bool,
     pub id: SlotId,
     pub ints: u8,
     pub exts: u8,

@@ -11,6 +11,7 @@ use native.Mathlib.Omega.{arith}
 use lib.Dec.{eqb, leb, ltb, leb-suc-suc}
 use lib.ListN.{length, get_or}
 use borrow.Author.Tests.{lt-ltb, ne_eqb, ltb-false, leb-false}
+use Rattle.std.specs.Prelude.{Err}
 use Rattle.numbers.specs.Bytes.{eq_l}
 use Rattle.numbers.proofs.Bytes.{by_bool, clash, eq_l_sym, eq_l_true}
 use Rattle.columns.specs.Lists.{tab_i}
@@ -23,9 +24,8 @@ use Rattle.rules.specs.Fill.{next_number, join_code}
 use Rattle.rules.specs.Calls.{join_groups}
 use Rattle.demands.proofs.Rows.{or_false}
 use Rattle.demands.proofs.Demand.{first_code}
-use Rattle.message.specs.declared.Code.{Code}
-use Rattle.message.specs.declared.Code.TheVariants.{Done, ManySlots, SharedAccount, NumbersUsedUp}
-use Rattle.message.specs.Answers.{number as number_of}
+use Rattle.message.specs.declared.Refusal.TheVariants.{ManySlots, SharedAccount, NumbersUsedUp}
+use Rattle.message.specs.Answers.{Code, Done, number as number_of}
 use Rattle.message.specs.Real.{Real}
 use Rattle.queues.specs.Meant.{row_in, order_of, if_marked}
 use Rattle.slots.specs.Table.{Table, count}
@@ -116,9 +116,9 @@ module _ (l r : Table) where
   code_first : number_of (join_code_t l r) ≡ first_of many 14 (first_of shared 15 (first_of used 12 0))
   unfolding join_code_by
   code_first =
-      number_first many ManySlots _
-      ∙ ap (first_of many 14) (number_first shared SharedAccount _
-      ∙ ap (first_of shared 15) (number_first used NumbersUsedUp Done))
+      number_first many (Err ManySlots) _
+      ∙ ap (first_of many 14) (number_first shared (Err SharedAccount) _
+      ∙ ap (first_of shared 15) (number_first used (Err NumbersUsedUp) Done))
 
   pub code_is : number_of (join_code_t l r) ≡ join_code Real (count l 0) (group_of l) (group_of r)
   unfolding join_code order_of

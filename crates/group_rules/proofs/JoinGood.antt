@@ -15,7 +15,7 @@ use Rattle.demands.proofs.Accounts.{num_append}
 use Rattle.demands.proofs.TidyJoin.{tidy_join}
 use Rattle.message.specs.Real.{Real}
 use Rattle.message.proofs.Real.{real_lawful}
-use Rattle.message.specs.declared.Code.TheVariants.{Done}
+use Rattle.message.specs.Answers.{Done}
 use Rattle.queues.specs.Meant.{order_of}
 use Rattle.buckets.specs.Cells.{GoodBuckets}
 use Rattle.slots.specs.Table.{Table, count}

@@ -20,7 +20,7 @@ use Rattle.rules.specs.Fill.{next_number, renumbered, listed_too}
 use Rattle.rules.specs.Fill as fill
 use Rattle.rules.specs.Demand.{OnceN}
 use Rattle.demands.proofs.SoundJoin.{Small, to_small}
-use Rattle.message.specs.declared.Code.TheVariants.{Done}
+use Rattle.message.specs.Answers.{Done}
 use Rattle.message.specs.Real.{Real}
 use Rattle.buckets.specs.Cells.{index}
 use Rattle.buckets.specs.Moves as moves

@@ -8,7 +8,7 @@ use lib.Dec.{eqb}
 use lib.ListN.{length, get_or}
 use Rattle.columns.specs.Lists.{tab_i}
 use Rattle.columns.proofs.Tabs.{length_tab}
-use Rattle.message.specs.declared.Code.TheVariants.{Done}
+use Rattle.message.specs.Answers.{Done}
 use Rattle.slots.specs.Table.{Table, count}
 use Rattle.slots.specs.Good.{Good}
 use Rattle.slots.specs.Join.{next_t, join_code_t, joined_t}

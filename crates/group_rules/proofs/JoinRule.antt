@@ -7,8 +7,7 @@ use Prim.Native.Nat.{ℕ, ◌+◌, ◌-◌}
 use lib.Dec.{eqb}
 use Rattle.rules.specs.Fill.{next_number, renumbered, last_of, listed_too, join, join_code}
 use Rattle.rules.specs.Calls.{join_groups}
-use Rattle.message.specs.declared.Code.TheVariants.{Done}
-use Rattle.message.specs.Answers.{number as number_of}
+use Rattle.message.specs.Answers.{Done, number as number_of}
 use Rattle.message.specs.Real.{Real}
 use Rattle.records.specs.Records.{form_of}
 use Rattle.queues.specs.Meant.{if_marked}

@@ -1,4 +1,4 @@
--- What is seen in well formed columns of a group is what the rules see in what they mean (crate group_rules, GroupLook); and such columns are
+-- What is seen in well formed columns of a group is what the rules see in what they mean (crate group_rules, GroupLook); and such columns hold
 -- what the walks ask for. Assumes nothing.
 use mathlib.Core.Path.{◌≡◌, refl, sym, ap, ◌∙◌}
 use mathlib.Core.Bool.{Bool, true, false, cond}
@@ -9,7 +9,7 @@ use native.Mathlib.Nat.{not-suc-le-zero, le_of_suc-le-suc}
 use native.Mathlib.Omega.{arith}
 use lib.Dec.{ltb}
 use lib.ListN.{length, get_or}
-use borrow.Author.Tests.{le-ltb, ltb-true, ltb-false}
+use borrow.Author.Tests.{ltb-true, ltb-false}
 use Rattle.numbers.proofs.Bytes.{by_bool}
 use Rattle.columns.specs.Lists.{pick}
 use Rattle.columns.specs.Rows.{row_at}
@@ -28,9 +28,9 @@ use Rattle.slots.specs.Good.{Good}
 use Rattle.buffer_rules.proofs.LookRule.{account_told}
 use Rattle.group_rules.proofs.GroupLook.{slot_told, slot_account_told, list_told, entry_told}
 use Rattle.group_reads.specs.Shown.{seen_id, seen_slot, accounts_at}
-use Rattle.slots_seen.specs.Slots.{slot_found, entry_in, id_found, SlotsIn}
-use Rattle.accounts_seen.specs.Accounts.{account_found, AccountsIn}
-use Rattle.messages_seen.specs.Messages.{row_for, message_found, MessagesIn}
+use Rattle.slots_seen.specs.Slots.{slot_found, entry_in, id_found}
+use Rattle.accounts_seen.specs.Accounts.{account_found}
+use Rattle.messages_seen.specs.Messages.{row_for, message_found}
 
 slot_is : (b : Bool) (s : Slot Real) → cond b (seen_slot (some s)) (seen_slot none) ≡ seen_slot (cond b (some s) none)
 slot_is true s = refl
@@ -84,28 +84,8 @@ module _ (t : Table) (g : Good t) where
       (λ z. rw (y, z, at_index t.buckets c l) (entry_seen c k))
       (λ z. let e = past_end (bucket_of t.buckets c) k mark (omega (arith, few_entries g.buckets c l, ltb-false k 64 z)) in
       rw (y, z, at_index t.buckets c l) (ap id_found (sym e) ∙ entry_seen c k)))
-      (λ n. rw (n, past_end (index t.buckets) c [] (omega (arith, length_index t.buckets, ltb-false c 17 n)), nth_none {A = ℕ} k, le-ltb mark mark (omega arith)))
+      (λ n. rw (n, past_end (index t.buckets) c [] (omega (arith, length_index t.buckets, ltb-false c 17 n)), nth_none {A = ℕ} k))
 
-  -- ---- what the reads ask for
-  pub accounts_in_lem : AccountsIn (length t.accounts) t.numbers
-  accounts_in_lem = record { sixteen = g.lengths.numbers; few = g.accounts; account = g.lengths.accounts }
-
-  pub slots_in : SlotsIn (length t.number) (length t.ints) (length t.exts) t.numbers
-  slots_in = record {
-    sixteen = g.lengths.numbers;
-    few = omega (arith, g.slots, g.S·high);
-    number = g.lengths.number;
-    int = g.lengths.ints;
-    ext = g.lengths.exts;
-  }
-
-  pub messages_in : MessagesIn (length t.owner) (length t.kind) (length t.form) (length t.time) (length t.address) (length t.hash) t.numbers
-  messages_in = record {
-    few = g.messages;
-    owner = g.lengths.owner;
-    kind = g.lengths.kind;
-    form = g.lengths.form;
-    time = g.lengths.time;
-    address = g.lengths.address;
-    hash = g.lengths.hash;
-  }
+  -- ---- what the reads ask for, where the group's own clauses do not say it
+  pub slots_in : count t 1 ≤ 64
+  slots_in = omega (arith, g.slots, g.S·high)

@@ -14,19 +14,16 @@ pub fn check_is_filled(
     asked: u64,
     height: usize,
 ) -> bool
-    requires { length numbers.now ≡ 16 }
     ensures { result ≡ filled_in buckets.now numbers.now asked height }
 {
     if numbers[1] < asked {
         return false;
     }
-    let cells = *buckets;
-    buckets::none_below(cells, height)
+    buckets::none_below(buckets, height)
 }
 
 // Writes the Display line to the start of what is lent and says how long it is; what is lent stays as it is where the line does not fit.
 pub fn display(numbers: &[u64; 16], out: &mut [u8]) -> usize
-    requires { length numbers.now ≡ 16 }
     ensures { (result ≡ length (line_for (counts_in numbers.now))) × (out.new ≡ written (line_for (counts_in numbers.now)) out.old) }
 {
     display::write_line(numbers[4], numbers[5], numbers[2], numbers[1], out)

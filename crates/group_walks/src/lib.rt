@@ -1,5 +1,5 @@
 // The walks of a group: slots by rising number, the accounts of a slot, lists, messages, buckets; and whether an account is there. Each is a
-// read of crates `slots_seen`, `accounts_seen` and `messages_seen` on copies of the columns that it needs.
+// read of crates `slots_seen`, `accounts_seen` and `messages_seen` on the columns that it needs.
 #![tactic(auto)]
 
 ghost use Rattle.std.specs.Prelude.{◌≡◌, [], get_or};
@@ -11,76 +11,72 @@ ghost use Rattle.slots.specs.Meant.{meant};
 ghost use Rattle.group_reads.specs.Shown.{seen_id, seen_slot, accounts_at};
 ghost use Rattle.groups.specs.Groups.{table_of, GoodGroup};
 
-use group_reads::{SeenId, SeenSlot};
+use group_reads::SeenSlot;
 use groups::group::Group;
-use message::{SeenAccount, SeenMessage};
+use message::Message;
+use numbers::SlotId;
 
 // Whether an account has a list in the group.
 pub fn contains_account(group: Group, name: [u8; 32]) -> bool
     requires { GoodGroup group }
     ensures { result ≡ has Real name (meant (table_of group)).now.lists }
 {
-    let accounts = group.accounts;
-    let numbers = group.numbers;
-    accounts_seen::contains_account(&accounts, &numbers, name)
+    accounts_seen::contains_account(&group.accounts, &group.numbers, name)
 }
 
 // The slot at a position, by rising number; none past the end.
-pub fn slot_at(group: Group, position: usize) -> SeenSlot
+pub fn slot_at(group: Group, position: usize) -> Option<SeenSlot>
     requires { GoodGroup group }
     ensures { result ≡ seen_slot (nth position (meant (table_of group)).now.slots) }
 {
-    let number = group.number;
-    let ints = group.ints;
-    let exts = group.exts;
-    let numbers = group.numbers;
-    slots_seen::slot_at(&number, &ints, &exts, &numbers, position)
+    slots_seen::slot_at(
+        &group.number,
+        &group.ints,
+        &group.exts,
+        &group.numbers,
+        position,
+    )
 }
 
 // The k-th account of the slot at a position; none past either end.
-pub fn slot_account_at(group: Group, position: usize, k: usize) -> SeenAccount
+pub fn slot_account_at(group: Group, position: usize, k: usize) -> Option<[u8; 32]>
     requires { GoodGroup group }
     ensures { result ≡ seen_account (nth k (accounts_at (nth position (meant (table_of group)).now.slots))) }
 {
-    let accounts = group.accounts;
-    let home = group.home;
-    let numbers = group.numbers;
-    accounts_seen::slot_account_at(&accounts, &home, &numbers, position, k)
+    accounts_seen::slot_account_at(&group.accounts, &group.home, &group.numbers, position, k)
 }
 
 // The account with the k-th list; none past the end.
-pub fn account_at(group: Group, k: usize) -> SeenAccount
+pub fn account_at(group: Group, k: usize) -> Option<[u8; 32]>
     requires { GoodGroup group }
     ensures { result ≡ seen_account (nth k (accounts_of Real (meant (table_of group)).now.lists)) }
 {
-    let accounts = group.accounts;
-    let numbers = group.numbers;
-    accounts_seen::account_at(&accounts, &numbers, k)
+    accounts_seen::account_at(&group.accounts, &group.numbers, k)
 }
 
 // The k-th message of an account's list; none past the end or without a list.
-pub fn message_at(group: Group, name: [u8; 32], k: usize) -> SeenMessage
+pub fn message_at(group: Group, name: [u8; 32], k: usize) -> Option<Message>
     requires { GoodGroup group }
     ensures { result ≡ seen_message (nth k (list_at Real name (meant (table_of group)).now.lists)) }
 {
-    let accounts = group.accounts;
-    let owner = group.owner;
-    let kind = group.kind;
-    let form = group.form;
-    let time = group.time;
-    let address = group.address;
-    let hash = group.hash;
-    let numbers = group.numbers;
     messages_seen::message_at(
-        &accounts, &owner, &kind, &form, &time, &address, &hash, &numbers, name, k,
+        &group.accounts,
+        &group.owner,
+        &group.kind,
+        &group.form,
+        &group.time,
+        &group.address,
+        &group.hash,
+        &group.numbers,
+        name,
+        k,
     )
 }
 
 // The k-th slot number that the bucket of a count lists; none past either end.
-pub fn bucket_at(group: Group, count: usize, k: usize) -> SeenId
+pub fn bucket_at(group: Group, count: usize, k: usize) -> Option<SlotId>
     requires { GoodGroup group }
     ensures { result ≡ seen_id (nth k (get_or (meant (table_of group)).now.index count [])) }
 {
-    let cells = group.buckets;
-    slots_seen::bucket_at(&cells, count, k)
+    slots_seen::bucket_at(&group.buckets, count, k)
 }

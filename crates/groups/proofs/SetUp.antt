@@ -3,13 +3,13 @@ use mathlib.Core.Path.{◌≡◌, refl, sym, ap, subst, ◌∙◌}
 use mathlib.Core.Bool.{true, false}
 use Prim.Native.Nat.{ℕ}
 use native.Mathlib.Omega.{arith}
+use Rattle.std.specs.Prelude.{Err}
 use Rattle.numbers.proofs.Bytes.{by_bool}
 use Rattle.rules.specs.World.{first_of}
 use Rattle.rules.specs.Calls.{Target, Answer, answer, within, set_up_group}
 use Rattle.demands.proofs.Fits.{in_range}
-use Rattle.message.specs.declared.Code.{Code}
-use Rattle.message.specs.declared.Code.TheVariants.{Done, SetUp}
-use Rattle.message.specs.Answers.{number as number_of}
+use Rattle.message.specs.declared.Refusal.TheVariants.{SetUp}
+use Rattle.message.specs.Answers.{Code, Done, number as number_of}
 use Rattle.message.specs.Real.{Real}
 use Rattle.sizes.specs.declared.Slots.{Slots}
 use Rattle.sizes.specs.Sizes.{slots_for}
@@ -35,7 +35,7 @@ module _ (S : ℕ) (g : Group) where
         exactly = e ∙ rw p;
       }
 
-  set_up_refused : within 1 64 S ≡ false → table_of g ≡ fresh_t 1 → SetsUp S SetUp g
+  set_up_refused : within 1 64 S ≡ false → table_of g ≡ fresh_t 1 → SetsUp S (Err SetUp) g
   unfolding set_up_group answer first_of
   set_up_refused f e = record {
     good = subst Good (sym e) (fresh_good 1 (omega arith) (omega arith));
@@ -47,7 +47,7 @@ module _ (S : ℕ) (g : Group) where
   set_up_lem {z} p e =
       by_bool (within 1 64 S)
       (λ y. by (record { code = Done; slots = S }) (p ∙ rw y) (set_up_done y))
-      (λ n. by (record { code = SetUp; slots = 1 }) (p ∙ rw n) (set_up_refused n))
+      (λ n. by (record { code = Err SetUp; slots = 1 }) (p ∙ rw n) (set_up_refused n))
     where
       by : (x : Slots) → z ≡ x → (table_of g ≡ fresh_t x.slots → SetsUp S x.code g) → SetsUp S z.code g
       by x q h = subst (λ (y : Slots). SetsUp S y.code g) (sym q) (h (e ∙ ap (λ (y : Slots). fresh_t y.slots) q))

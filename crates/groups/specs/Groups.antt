@@ -1,8 +1,7 @@
 -- What the public contracts of a group cite: its columns, when it is well formed, and what a set-up gives. Assumes nothing.
 use Rattle.std.specs.Prelude.{◌≡◌, cond, ℕ}
 use Rattle.rules.specs.Calls as calls
-use Rattle.message.specs.declared.Code.{Code}
-use Rattle.message.specs.Answers.{number as number_of}
+use Rattle.message.specs.Answers.{Code, number as number_of}
 use Rattle.message.specs.Real.{Real}
 use Rattle.slots.specs.Table.{Table}
 use Rattle.slots.specs.Meant.{meant}

@@ -1,5 +1,5 @@
 // The group: slots by rising number, each with its accounts, and the accounts' lists of messages in order of collection. What is read off it
-// is read by crate `group_reads`, on copies of the columns that it needs.
+// is read by crate `group_reads`, which is lent the columns that it needs.
 ghost use Rattle.std.specs.Prelude.{◌≡◌};
 ghost use Rattle.rules.specs.World.{is_nil};
 ghost use Rattle.rules.specs.Fill.{is_filled};
@@ -9,8 +9,9 @@ ghost use Rattle.slots.specs.Join.{fresh_t};
 ghost use Rattle.group_reads.specs.Shown.{counts_of, seen_id, Displays};
 ghost use Rattle.groups.specs.Groups.{table_of, GoodGroup, SetsUp};
 
-use group_reads::{Counts, SeenId, held};
+use group_reads::{Counts, held};
 use message::Code;
+use numbers::SlotId;
 
 // A group of at most 64 slots, 1,024 accounts and 1,024 messages.
 #[derive(Clone, Copy)]
@@ -31,6 +32,7 @@ pub struct Group {
 }
 
 // What a set-up answers.
+// stays: what may not change: a refused set-up gives a group of size 1 (`SetsUp`), so the group stands beside the code.
 #[derive(Clone, Copy)]
 pub struct Answer {
     pub code: Code,
@@ -68,9 +70,8 @@ impl Group {
         ensures { SetsUp s result.code result.group }
     {
         let size = sizes::slots_for(s);
-        let code = size.code;
         Answer {
-            code,
+            code: size.code,
             group: fresh(size.slots),
         }
     }
@@ -82,8 +83,7 @@ impl Group {
         requires { GoodGroup self }
         ensures { result ≡ counts_of (meant (table_of self)) }
     {
-        let numbers = self.numbers;
-        held::counts(&numbers)
+        held::counts(&self.numbers)
     }
 
     // Whether it has no slot.
@@ -91,8 +91,7 @@ impl Group {
         requires { GoodGroup self }
         ensures { result ≡ is_nil (meant (table_of self)).now.slots }
     {
-        let numbers = self.numbers;
-        held::is_empty(&numbers)
+        held::is_empty(&self.numbers)
     }
 
     // Whether it is filled: at least as many slots as asked for, and every bucket below the height empty.
@@ -100,18 +99,15 @@ impl Group {
         requires { GoodGroup self }
         ensures { result ≡ is_filled Real asked height (meant (table_of self)).now }
     {
-        let numbers = self.numbers;
-        let cells = self.buckets;
-        group_shown::check_is_filled(&cells, &numbers, asked, height)
+        group_shown::check_is_filled(&self.buckets, &self.numbers, asked, height)
     }
 
     // The last slot number that was given; it is not the number of slots.
-    pub fn last_slot(self) -> SeenId
+    pub fn last_slot(self) -> Option<SlotId>
         requires { GoodGroup self }
         ensures { result ≡ seen_id (meant (table_of self)).now.last }
     {
-        let numbers = self.numbers;
-        held::last_slot(&numbers)
+        held::last_slot(&self.numbers)
     }
 
     // Writes the Display line to the start of what is lent and says how long it is; what is lent stays as it is where the line does not fit.
@@ -119,7 +115,6 @@ impl Group {
         requires { GoodGroup self }
         ensures { Displays (meant (table_of self)) out.old out.new result }
     {
-        let numbers = self.numbers;
-        group_shown::display(&numbers, out)
+        group_shown::display(&self.numbers, out)
     }
 }

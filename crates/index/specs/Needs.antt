@@ -6,7 +6,5 @@ use Rattle.index.specs.Names.{index_of_names}
 pub record Sought (accounts : List ℕ) (places : ℕ) (numbers x : List ℕ) : Type 0 where
   pub bytes : 32 * places ≤ length accounts
   pub few : places ≤ 256
-  pub many : length numbers ≡ 528
-  pub wide : length x ≡ 32
   pub index : drop 16 numbers ≡ index_of_names (rows_of places accounts)
   pub once : (i j : ℕ) → i < j → j < places → row_at accounts i ≡ row_at accounts j → ⊥

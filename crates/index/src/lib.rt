@@ -13,8 +13,9 @@ pub fn find(accounts: &[u8; 16384], places: usize, numbers: &[u64; 528], x: &[u8
     requires { Sought accounts.now places numbers.now x.now }
     ensures { result ≡ index_of x.now (rows_of places accounts.now) }
 {
-    let hash = numbers::wide8(x[31]);
+    let hash = usize::from(x[31]);
     let mut next = numbers[272 + hash] as usize;
+    // stays: a walk along a chain: no range or iterator gives these places, and a chain of `successors` would be no plainer.
     while next != 0 {
         let place = next - 1;
         if rows::same_row(accounts, place, x) {
@@ -27,7 +28,7 @@ pub fn find(accounts: &[u8; 16384], places: usize, numbers: &[u64; 528], x: &[u8
 
 // Makes this place the last one with this hash.
 fn link(hash: usize, place: usize, numbers: &mut [u64; 528])
-    requires { (hash < 256) × (place < 256) × (length numbers.old ≡ 528) }
+    requires { (hash < 256) × (place < 256) }
     ensures { numbers.new ≡ with_index (linked_c hash place (drop 16 numbers.old)) numbers.old }
 {
     let before = numbers[272 + hash];
@@ -37,21 +38,19 @@ fn link(hash: usize, place: usize, numbers: &mut [u64; 528])
 
 // Enters the name x at this place, behind all that are in the index.
 pub fn enter(x: &[u8; 32], place: usize, numbers: &mut [u64; 528])
-    requires { (length x.now ≡ 32) × (place < 256) × (length numbers.old ≡ 528) }
+    requires { place < 256 }
     ensures { numbers.new ≡ with_index (enter_c x.now place (drop 16 numbers.old)) numbers.old }
 {
-    link(numbers::wide8(x[31]), place, numbers);
+    link(usize::from(x[31]), place, numbers);
 }
 
 // The index of the first `places` accounts, made anew.
 pub fn rebuild(accounts: &[u8; 16384], places: usize, numbers: &mut [u64; 528])
-    requires { (32 * places ≤ length accounts.now) × (places ≤ 256) × (length numbers.old ≡ 528) }
+    requires { (32 * places ≤ length accounts.now) × (places ≤ 256) }
     ensures { numbers.new ≡ indexed_by places accounts.now numbers.old }
 {
-    cells::clear_words(numbers, 16, 512);
-    let mut place: usize = 0;
-    while place < places {
-        link(numbers::wide8(accounts[32 * place + 31]), place, numbers);
-        place += 1;
+    cells::clear(numbers, 16, 512, 0);
+    for place in 0..places {
+        link(usize::from(accounts[32 * place + 31]), place, numbers);
     }
 }

@@ -32,15 +32,13 @@ pub fn reindex(
 {
     let mut made = buckets;
     let mut left = [0u8; 17];
-    let mut i: usize = 0;
-    while i < n {
-        let old = numbers::wide8(olds[i]);
-        let new = numbers::wide8(news[i]);
+    for i in 0..n {
+        let old = usize::from(olds[i]);
+        let new = usize::from(news[i]);
         if old != new {
             moved(&mut made, old, new, SlotId(numbers[i]), left[old] == 1);
             left[old] = 1;
         }
-        i += 1;
     }
     made
 }
@@ -51,10 +49,8 @@ pub fn list_new(buckets: [u32; 1088], numbers: &[u16], counts: &[u8], n: usize) 
     ensures { Leaves (listed_too Plain (slots_of numbers.now counts.now n) 0 (index buckets)) result }
 {
     let mut made = buckets;
-    let mut i: usize = 0;
-    while i < n {
-        buckets::put_last(&mut made, numbers::wide8(counts[i]), SlotId(numbers[i]));
-        i += 1;
+    for i in 0..n {
+        buckets::put_last(&mut made, usize::from(counts[i]), SlotId(numbers[i]));
     }
     made
 }

@@ -1,7 +1,6 @@
 -- What a join of lent columns gives, with its code as a number. Assumes nothing.
 use Rattle.std.specs.Prelude.{◌≡◌, ℕ}
-use Rattle.message.specs.declared.Code.{Code}
-use Rattle.message.specs.Answers.{number as number_of}
+use Rattle.message.specs.Answers.{Code, number as number_of}
 use Rattle.slots.specs.Table.{Table}
 use Rattle.merging.specs.Merges.{Merges}
 

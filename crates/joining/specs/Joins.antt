@@ -1,5 +1,5 @@
 -- What the contract of a join by value cites: that of the join on lent columns, said of both groups' columns. Assumes nothing.
-use Rattle.message.specs.declared.Code.{Code}
+use Rattle.message.specs.Answers.{Code}
 use Rattle.groups.specs.declared.group.Group.{Group}
 use Rattle.groups.specs.Groups.{table_of}
 use Rattle.merging.specs.Merges.{Merges}

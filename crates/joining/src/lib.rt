@@ -1,4 +1,4 @@
-// A join by value: the columns of two groups are lent to the join (crate `merging`), and put together again.
+// A join by value: the columns of two groups are lent to the join (crate `merging`).
 #![tactic(auto)]
 
 ghost use Rattle.groups.specs.Groups.{GoodGroup};
@@ -8,6 +8,7 @@ use groups::group::Group;
 use message::Code;
 
 // What a join answers: its code, and both groups afterwards.
+// stays: what may not change: a refused join gives both groups back (`Joins`), so they stand beside the code.
 #[derive(Clone, Copy)]
 pub struct Joined {
     pub code: Code,
@@ -20,90 +21,36 @@ pub fn join(left: Group, right: Group) -> Joined
     requires { GoodGroup left × GoodGroup right }
     ensures { Joins left right result.code result.left result.right }
 {
-    let mut number = left.number;
-    let mut ints = left.ints;
-    let mut exts = left.exts;
-    let mut accounts = left.accounts;
-    let mut home = left.home;
-    let mut owner = left.owner;
-    let mut kind = left.kind;
-    let mut form = left.form;
-    let mut time = left.time;
-    let mut address = left.address;
-    let mut hash = left.hash;
-    let mut buckets = left.buckets;
-    let mut numbers = left.numbers;
-    let mut number2 = right.number;
-    let mut ints2 = right.ints;
-    let mut exts2 = right.exts;
-    let mut accounts2 = right.accounts;
-    let mut home2 = right.home;
-    let mut owner2 = right.owner;
-    let mut kind2 = right.kind;
-    let mut form2 = right.form;
-    let mut time2 = right.time;
-    let mut address2 = right.address;
-    let mut hash2 = right.hash;
-    let mut buckets2 = right.buckets;
-    let mut numbers2 = right.numbers;
+    let mut grown = left;
+    let mut emptied = right;
     let code = merging::join(
-        &mut number,
-        &mut ints,
-        &mut exts,
-        &mut accounts,
-        &mut home,
-        &mut owner,
-        &mut kind,
-        &mut form,
-        &mut time,
-        &mut address,
-        &mut hash,
-        &mut buckets,
-        &mut numbers,
-        &mut number2,
-        &mut ints2,
-        &mut exts2,
-        &mut accounts2,
-        &mut home2,
-        &mut owner2,
-        &mut kind2,
-        &mut form2,
-        &mut time2,
-        &mut address2,
-        &mut hash2,
-        &mut buckets2,
-        &mut numbers2,
+        &mut grown.number,
+        &mut grown.ints,
+        &mut grown.exts,
+        &mut grown.accounts,
+        &mut grown.home,
+        &mut grown.owner,
+        &mut grown.kind,
+        &mut grown.form,
+        &mut grown.time,
+        &mut grown.address,
+        &mut grown.hash,
+        &mut grown.buckets,
+        &mut grown.numbers,
+        &mut emptied.number,
+        &mut emptied.ints,
+        &mut emptied.exts,
+        &mut emptied.accounts,
+        &mut emptied.home,
+        &mut emptied.owner,
+        &mut emptied.kind,
+        &mut emptied.form,
+        &mut emptied.time,
+        &mut emptied.address,
+        &mut emptied.hash,
+        &mut emptied.buckets,
+        &mut emptied.numbers,
     );
-    let grown = Group {
-        number,
-        ints,
-        exts,
-        accounts,
-        home,
-        owner,
-        kind,
-        form,
-        time,
-        address,
-        hash,
-        buckets,
-        numbers,
-    };
-    let emptied = Group {
-        number: number2,
-        ints: ints2,
-        exts: exts2,
-        accounts: accounts2,
-        home: home2,
-        owner: owner2,
-        kind: kind2,
-        form: form2,
-        time: time2,
-        address: address2,
-        hash: hash2,
-        buckets: buckets2,
-        numbers: numbers2,
-    };
     Joined {
         code,
         left: grown,

@@ -3,16 +3,14 @@ ghost use Rattle.std.specs.Prelude.{◌≡◌, ℕ, ◌+◌, ◌*◌, ◌<◌, �
 ghost use Rattle.slots.specs.Join.{shared_t, join_code_by};
 ghost use Rattle.joins.specs.Laying.{Rooms, Countable};
 
-use message::Code;
+use message::{Code, Refusal};
 
 // Whether one of the first n accounts of the right is one of the first m of the left.
 fn shared(left: &[u8], m: usize, right: &[u8], n: usize) -> bool
     requires { (32 * m ≤ length left.now) × (32 * n ≤ length right.now) }
     ensures { result ≡ shared_t m left.now n right.now }
 {
-    let mut k = n;
-    while 0 < k {
-        k -= 1;
+    for k in 0..n {
         let x = rows::get_row(right, k);
         if rows::find_row(left, m, &x) < m {
             return true;
@@ -28,8 +26,8 @@ pub fn decide(
     right: &[u64; 16],
     others: &[u8; 32768],
 ) -> Code
-    requires rooms { Rooms left.now (length accounts.now) }
-    requires rooms_2 { Rooms right.now (length others.now) }
+    requires rooms { Rooms left.now }
+    requires rooms_2 { Rooms right.now }
     ensures { result ≡ join_code_by left.now accounts.now right.now others.now }
 {
     let n = right[1];
@@ -37,15 +35,15 @@ pub fn decide(
     let twice = shared(accounts, left[2] as usize, others, right[2] as usize);
     let used = 65535 <= slots::next_number(left) + n as usize;
     if many {
-        return Code::ManySlots;
+        return Err(Refusal::ManySlots);
     }
     if twice {
-        return Code::SharedAccount;
+        return Err(Refusal::SharedAccount);
     }
     if used {
-        return Code::NumbersUsedUp;
+        return Err(Refusal::NumbersUsedUp);
     }
-    Code::Done
+    Ok(())
 }
 
 // The counts of n slots: internals and externals together.
@@ -54,10 +52,8 @@ pub fn counts_of(n: usize, ints: &[u8; 64], exts: &[u8; 64]) -> [u8; 64]
     ensures { (length result ≡ 64) × ((i : ℕ) → i < n → get_or result i 0 ≡ get_or ints.now i 0 + get_or exts.now i 0) }
 {
     let mut counts = [0u8; 64];
-    let mut i: usize = 0;
-    while i < n {
+    for i in 0..n {
         counts[i] = ints[i] + exts[i];
-        i += 1;
     }
     counts
 }

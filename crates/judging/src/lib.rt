@@ -15,7 +15,7 @@ pub struct Said {
 
 // The mark of an account whose first skip row is `row`, of n.
 fn mark_of(set: &[u8], k: usize, verdicts: &[u8], n: usize, row: usize, x: &[u8; 32]) -> u8
-    requires { (32 * k ≤ length set.now) × (n ≤ length verdicts.now) × (length x.now ≡ 32) }
+    requires { (32 * k ≤ length set.now) × (n ≤ length verdicts.now) }
     ensures { result ≡ mark_by set.now k verdicts.now n row x.now }
 {
     if rows::find_row(set, k, x) < k {
@@ -40,7 +40,7 @@ pub fn judge(
     cost: u64,
     x: &[u8; 32],
 ) -> Said
-    requires { Spoken (sayings set.now k names.now verdicts.now costs.now n cost) × (length x.now ≡ 32) }
+    requires { Spoken (sayings set.now k names.now verdicts.now costs.now n cost) }
     ensures { (result.mark ≡ mark_of (sayings set.now k names.now verdicts.now costs.now n cost) x.now) × (result.cost ≡ cost_of (sayings set.now k names.now verdicts.now costs.now n cost) x.now) }
 {
     let row = rows::find_row(names, n, x);
@@ -71,16 +71,14 @@ pub fn judge_order(
     cost: &mut [u64; 1280],
 )
     requires spoken { Spoken (sayings set.now k names.now verdicts.now costs.now n default) }
-    requires places_in_bounds { (32 * places ≤ length accounts.now) × (places ≤ 256) × (length mark.old ≡ 1280) × (length cost.old ≡ 1280) }
+    requires places_in_bounds { (32 * places ≤ length accounts.now) × (places ≤ 256) }
     ensures { Judges (order_marks (sayings set.now k names.now verdicts.now costs.now n default) accounts.now places mark.old) (order_costs (sayings set.now k names.now verdicts.now costs.now n default) accounts.now places cost.old) mark.new cost.new }
 {
-    let mut p: usize = 0;
-    while p < places {
+    for p in 0..places {
         let x = rows::get_row(accounts, p);
         let said = judge(set, k, names, verdicts, costs, n, default, &x);
         mark[p] = said.mark;
         cost[p] = said.cost;
-        p += 1;
     }
 }
 
@@ -100,21 +98,19 @@ pub fn judge_group(
     cost: &mut [u64; 1280],
 )
     requires spoken { Spoken (sayings set.now k names.now verdicts.now costs.now n default) }
-    requires members_in_bounds { (32 * members ≤ length accounts.now) × (members ≤ 1024) × (length member.now ≡ 1280) × (length mark.old ≡ 1280) × (length cost.old ≡ 1280) }
+    requires members_in_bounds { (32 * members ≤ length accounts.now) × (members ≤ 1024) }
     ensures { Judges (group_marks (sayings set.now k names.now verdicts.now costs.now n default) accounts.now member.now members mark.old) (group_costs (sayings set.now k names.now verdicts.now costs.now n default) accounts.now member.now members cost.old) mark.new cost.new }
 {
-    let mut g: usize = 0;
-    while g < members {
+    for g in 0..members {
         let mut said = Said {
             mark: 0,
             cost: default,
         };
-        if numbers::wide16(member[g]) == 256 + g {
+        if usize::from(member[g]) == 256 + g {
             let x = rows::get_row(accounts, g);
             said = judge(set, k, names, verdicts, costs, n, default, &x);
         }
         mark[256 + g] = said.mark;
         cost[256 + g] = said.cost;
-        g += 1;
     }
 }

@@ -10,24 +10,11 @@ use Rattle.columns.specs.Lists.{tab_i}
 use Rattle.columns.specs.Laid.{laid_at}
 use Rattle.columns.proofs.Lays.{Laying, lay_step, lay_end}
 use Rattle.columns.proofs.Tabs.{length_tab, get_d_tab}
-use Rattle.laying.specs.Laying.{Raises}
 
 pub take_map : (f : ℕ → ℕ) (n : ℕ) (xs : List ℕ) → take n (map f xs) ≡ map f (take n xs)
 take_map f zero xs = refl
 take_map f (suc n) [] = refl
 take_map f (suc n) (x ∷ xs) = ap (λ (l : List ℕ). f x ∷ l) (take_map f n xs)
-
--- each cell raised
-module _ (by : ℕ) {to n bound : ℕ} {from ys₀ ys : List ℕ} {j : ℕ} (may : Raises to n by bound from (length ys₀))
-    (v : Laying (map (λ x. x + by) from) to n ys₀ ys j) where
-  enough : n ≤ length (map (λ x. x + by) from)
-  enough = rw (length-map from (λ x. x + by)) may.source
-
-  pub raise_step : j < n → Laying (map (λ x. x + by) from) to n ys₀ (set ys (to + j) (get_or from j 0 + by)) (j + 1)
-  raise_step l = lay_step v enough (0 + by) may.target l _ (sym (get_or-map (λ x. x + by) from j 0))
-
-  pub raise_end : n ≤ j → ys ≡ laid_at to (map (λ x. x + by) (take n from)) ys₀
-  raise_end h = rw (← take_map) (lay_end v enough h)
 
 -- n values of a function, one a number
 module _ (f : ℕ → ℕ) (first : ℕ) {to n : ℕ} {ys₀ ys : List ℕ} {j : ℕ} (fits : to + n ≤ length ys₀) (v : Laying (tab_i n first f) to n ys₀ ys j) where

@@ -1,58 +1,29 @@
-// Loops that lay the front of one column over another: as it is, raised by a number, or counted up.
+// The front of one column laid over another: as it is, raised by a number, or numbers counted up.
 #![tactic(auto)]
 
-ghost use Rattle.std.specs.Prelude.{◌≡◌, map, ◌+◌, ◌<◌, ◌≤◌, length, get_or, take};
+ghost use Rattle.std.specs.Prelude.{◌≡◌, ℕ, map, ◌+◌, ◌<◌, ◌≤◌, length, get_or, take};
 ghost use Rattle.columns.specs.Lists.{tab_i};
 ghost use Rattle.columns.specs.Laid.{laid_at};
-ghost use Rattle.laying.specs.Laying.{Lays, Raises};
+ghost use Rattle.laying.specs.Laying.{Lays};
+
+use std::ops::Add;
 
 // Lays the first n cells of `from` over the cells from `to` on.
-pub fn lay_bytes(col: &mut [u8], to: usize, from: &[u8], n: usize)
+pub fn lay<T: Copy>(col: &mut [T], to: usize, from: &[T], n: usize)
     requires { Lays to n (length from.now) (length col.old) }
     ensures { col.new ≡ laid_at to (take n from.now) col.old }
 {
-    let mut i: usize = 0;
-    while i < n {
-        let x: u8 = from[i];
-        col[to + i] = x;
-        i += 1;
-    }
+    col[to..to + n].copy_from_slice(&from[..n]);
 }
 
-pub fn lay_words(col: &mut [u64], to: usize, from: &[u64], n: usize)
-    requires { Lays to n (length from.now) (length col.old) }
-    ensures { col.new ≡ laid_at to (take n from.now) col.old }
+// The same, each cell raised by a number: f is what the type's sum makes of a cell.
+pub fn raise<T: Copy + Add<Output = T>>(col: &mut [T], to: usize, from: &[T], n: usize, by: T)
+    requires fits { Lays to n (length from.now) (length col.old) }
+    requires low { (i : ℕ) (d : T) → i < n → T.can_add (get_or from.now i d) by }
+    ensures { (f : T → T) → ((x sum : T) → T.add_gives x by sum → sum ≡ f x) → col.new ≡ laid_at to (map f (take n from.now)) col.old }
 {
-    let mut i: usize = 0;
-    while i < n {
-        let x: u64 = from[i];
-        col[to + i] = x;
-        i += 1;
-    }
-}
-
-// The same, each cell raised by a number.
-pub fn raise_bytes(col: &mut [u8], to: usize, from: &[u8], n: usize, by: u8)
-    requires { Raises to n by 256 from.now (length col.old) }
-    ensures { col.new ≡ laid_at to (map (λ x. x + by) (take n from.now)) col.old }
-{
-    let mut i: usize = 0;
-    while i < n {
-        let x: u8 = from[i] + by;
-        col[to + i] = x;
-        i += 1;
-    }
-}
-
-pub fn raise_shorts(col: &mut [u16], to: usize, from: &[u16], n: usize, by: u16)
-    requires { Raises to n by 65536 from.now (length col.old) }
-    ensures { col.new ≡ laid_at to (map (λ x. x + by) (take n from.now)) col.old }
-{
-    let mut i: usize = 0;
-    while i < n {
-        let x: u16 = from[i] + by;
-        col[to + i] = x;
-        i += 1;
+    for (i, x) in from[..n].iter().enumerate() {
+        col[to + i] = *x + by;
     }
 }
 
@@ -61,9 +32,7 @@ pub fn count_up(col: &mut [u16], to: usize, n: usize, first: usize)
     requires { (to + n ≤ length col.old) × (first + n ≤ 65536) }
     ensures { col.new ≡ laid_at to (tab_i n first (λ k. k)) col.old }
 {
-    let mut i: usize = 0;
-    while i < n {
-        col[to + i] = (first + i) as u16;
-        i += 1;
+    for (i, cell) in col[to..to + n].iter_mut().enumerate() {
+        *cell = (first + i) as u16;
     }
 }

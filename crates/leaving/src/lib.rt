@@ -13,19 +13,17 @@ pub fn seat_unnamed(
     k: usize,
     seats: &mut [u16; 256],
 ) -> usize
-    requires { (a ≤ 256) × (32 * k ≤ length names.now) × (length accounts.now ≡ 16384) × (length seats.old ≡ 256) }
+    requires { (a ≤ 256) × (32 * k ≤ length names.now) }
     ensures { Seated (named_c names.now k accounts.now) a seats.old seats.new result }
 {
-    let mut p: usize = 0;
     let mut w: usize = 0;
-    while p < a {
+    for p in 0..a {
         let x = rows::get_row(accounts, p);
         let stays = k <= rows::find_row(names, k, &x);
         if stays {
             seats[p] = w as u16;
             w += 1;
         }
-        p += 1;
     }
     w
 }
@@ -36,15 +34,13 @@ pub fn lost_externals(owner: &[u16; 2048], kind: &[u8; 2048], n: usize, seats: &
     ensures { result ≡ lost_externals seats.now kind.now n owner.now }
 {
     let mut count: usize = 0;
-    let mut i: usize = 0;
-    while i < n {
+    for i in 0..n {
         let external = kind[i] == 1;
         if external {
-            if !packing::is_place(seats[numbers::wide16(owner[i])]) {
+            if !packing::is_place(seats[usize::from(owner[i])]) {
                 count += 1;
             }
         }
-        i += 1;
     }
     count
 }

@@ -1,46 +1,39 @@
--- What the loop over the skip rows keeps (`Counting`), and what a test of the sizes that fails says. Assumes nothing.
-use mathlib.Core.Path.{◌≡◌}
+-- The rows that say skip, counted (`counted`), and what a test of the sizes that fails says. Assumes nothing.
+use mathlib.Core.Path.{◌≡◌, refl, ap, ◌∙◌}
 use mathlib.Core.Bool.{Bool, false, cond, not}
-use mathlib.Core.List.{List}
-use Prim.Native.Nat.{ℕ, ◌+◌, ◌-◌, ◌<◌, ◌≤◌}
-use native.Mathlib.Nat.{zero-add, sub-zero, sub-eq-zero_of_le, add-zero}
+use mathlib.Core.List.{List, [], ◌∷◌}
+use Prim.Native.Nat.{ℕ, zero, suc, ◌+◌, ◌≤◌}
 use native.Mathlib.Omega.{arith}
 use lib.Dec.{eqb, ltb}
-use lib.ListN.{length, get_or, drop}
-use borrow.Author.Tests.{eq-eqb, ne_eqb, ltb-false}
+use lib.ListN.{length, take}
+use lib.Seq.{length-take-le}
+use borrow.Author.Tests.{ltb-false}
+use Rattle.std.specs.Prelude.{count_by}
+use Rattle.std.proofs.lemmas.List.Sums.{sum_by-cons, count_by-le-length}
 use Rattle.columns.specs.Lists.{count_i}
-use Rattle.columns.proofs.Scans.{count_step}
 use Rattle.demands.proofs.Rows.{or_false}
 use Rattle.limits.specs.Limits.{too_large, skips_in}
 
 -- ---- the rows that say skip
 
-abbrev pub says : ℕ → ℕ → Bool
+abbrev says : ℕ → ℕ → Bool
 says i v = not (eqb v 0)
 
--- the count so far and what the rest counts are the whole
-pub record Counting (verdicts : List ℕ) (n i count : ℕ) : Type 0 where
-  pub within : i ≤ n
-  pub low : count ≤ i
-  pub rest : count + count_i says (n - i) i (drop i verdicts) ≡ skips_in n verdicts
+-- counted with their places, as counted without
+counted_from : (n i : ℕ) (verdicts : List ℕ) → n ≤ length verdicts → count_by (λ v. not (eqb v 0)) (take n verdicts) ≡ count_i says n i verdicts
+unfolding count_i
+counted_from zero i verdicts h = refl
+counted_from (suc n) i [] h = absurd (omega (arith, h))
+counted_from (suc n) i (v ∷ vs) h =
+    sum_by-cons (λ x. cond (says i x) 1 0) v (take n vs) ∙ ap (λ (k : ℕ). cond (says i v) 1 0 + k) (counted_from n (i + 1) vs (omega (arith, h)))
 
-pub count_start : (verdicts : List ℕ) (n : ℕ) → Counting verdicts n 0 0
-count_start verdicts n = record { within = omega arith; low = omega arith; rest = rw (sub-zero, zero-add) }
+-- no more than there are
+pub counted_few : (n : ℕ) (verdicts : List ℕ) → n ≤ length verdicts → count_by (λ v. not (eqb v 0)) (take n verdicts) ≤ n
+counted_few n verdicts h =
+    omega (arith, count_by-le-length (λ v. not (eqb v 0)) (take n verdicts), length-take-le n verdicts h)
 
-module _ {verdicts : List ℕ} {n i count : ℕ} (v : Counting verdicts n i count) where
-  pub count_end : n ≤ i → count ≡ skips_in n verdicts
-  unfolding count_i
-  count_end h = rw (sub-eq-zero_of_le h, add-zero) at v.rest
-
-  module _ (l : i < n) (h : n ≤ length verdicts) where
-    step : count_i says (n - i) i (drop i verdicts) ≡ cond (says i (get_or verdicts i 0)) 1 0 + count_i says (n - (i + 1)) (i + 1) (drop (i + 1) verdicts)
-    step = count_step says n i verdicts 0 l (omega arith)
-
-    pub count_one : (get_or verdicts i 0 ≡ 0 → ⊥) → Counting verdicts n (i + 1) (count + 1)
-    count_one e = record { within = omega arith; low = omega (arith, v.low); rest = omega (arith, v.rest, rw (ne_eqb _ _ e) at step) }
-
-    pub count_other : get_or verdicts i 0 ≡ 0 → Counting verdicts n (i + 1) count
-    count_other e = record { within = omega arith; low = omega (arith, v.low); rest = omega (arith, v.rest, rw (eq-eqb _ _ e) at step) }
+pub counted : (n : ℕ) (verdicts : List ℕ) → n ≤ length verdicts → count_by (λ v. not (eqb v 0)) (take n verdicts) ≡ skips_in n verdicts
+counted n verdicts h = counted_from n 0 verdicts h
 
 -- what a test that fails says
 pub not_large : (asked height most : ℕ) → too_large asked height most ≡ false → (asked ≤ most) × (height ≤ 16)

@@ -1,2 +1,2 @@
--- What the loop over the skip rows keeps, and what the sizes say.
+-- The rows that say skip, counted, and what the sizes say.
 pub mod Counting

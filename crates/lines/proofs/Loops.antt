@@ -1,7 +1,7 @@
 -- The loop over the numbers of a line, and the loop over lines: what was read, and what is still to be read, is the whole. The cells of the
 -- table follow what was read. Assumes nothing.
 use mathlib.Core.Path.{◌≡◌, refl, sym, ap, ◌∙◌}
-use mathlib.Core.Bool.{true, false, cond}
+use mathlib.Core.Bool.{cond}
 use mathlib.Core.List.{List, [], ◌∷◌, ◌++◌, append-nil, append_assoc}
 use Prim.Native.Nat.{ℕ, suc, ◌+◌, ◌-◌, ◌*◌, ◌≤◌, ◌<◌}
 use native.Mathlib.Nat.{add-zero, sub-zero, mul-le-mul_right}
@@ -10,15 +10,15 @@ use native.Mathlib.Omega.{arith}
 use lib.Dec.{ltb}
 use lib.ListN.{length, get_or, take, drop, set, length-append, length-set, drop_of_length-le}
 use lib.Seq.{take-add, drop-cons, append_snoc}
-use borrow.Author.Tests.{lt-ltb, le-ltb, ltb-true, ltb-false}
-use Rattle.numbers.proofs.Bytes.{by_bool, clash}
+use borrow.Author.Tests.{ltb-true, ltb-false}
+use Rattle.numbers.proofs.Bytes.{by_bool}
 use Rattle.columns.specs.Laid.{laid_at}
 use Rattle.columns.specs.Rows.{flat}
 use Rattle.columns.proofs.Laid.{length_laid, take_laid, middle_laid, drop_laid, laid_none, laid_one}
 use Rattle.columns.proofs.Rows.{flat_append}
 use Rattle.columns.proofs.Scans.{turns}
 use Rattle.numerals.specs.declared.Numeral.{Numeral}
-use Rattle.lines.specs.declared.Line.{Line}
+use Rattle.std.proofs.Common.{Some, None, Ok, Err}
 use Rattle.sheet_rules.specs.Sheet.{Read, took, broken, after, stop_by, number_at, line_at, lines_at}
 use Rattle.numerals.specs.Steps.{ReadsNumber}
 use Rattle.lines.specs.Steps.{ReadsLine, ReadsLines}
@@ -92,19 +92,18 @@ module _ (text : List ℕ) (from : ℕ) (limits : List ℕ) (cell : ℕ) (before
     unfolding line_at
     here at l = rw (drop-cons limits j 0 l, stop_by_lem limits j)
 
-    module _ (l : j < length limits) (stop : ℕ) (e : stop ≡ cond (ltb (j + 1) (length limits)) 32 10) (n : Numeral)
-        (w : ReadsNumber text next stop (get_or limits j 0) n) where
-      got : (at : ℕ) → n.found ≡ true → line_at at (drop j limits) (drop next text)
+    module _ (l : j < length limits) (stop : ℕ) (e : stop ≡ cond (ltb (j + 1) (length limits)) 32 10) where
+      got : (n : Numeral) → ReadsNumber text next stop (get_or limits j 0) (Some n) → (at : ℕ) → line_at at (drop j limits) (drop next text)
           ≡ after (line_at at (drop (suc j) limits) (drop n.next text)) (λ ns behind. took (n.value ∷ ns) behind)
-      got at t =
+      got n w at =
           let read : number_at at (cond (ltb (j + 1) (length limits)) 32 10) (get_or limits j 0) (drop next text) ≡ took n.value (drop n.next text) =
-          rw (← e) (w.same at ∙ rw t)
+          rw (← e) (w.same at)
           in
           here at l ∙ rw read
 
-      lost : (at : ℕ) → n.found ≡ false → line_at at (drop j limits) (drop next text) ≡ broken at
-      lost at f =
-          let read : number_at at (cond (ltb (j + 1) (length limits)) 32 10) (get_or limits j 0) (drop next text) ≡ broken at = rw (← e) (w.same at ∙ rw f) in
+      lost : ReadsNumber text next stop (get_or limits j 0) None → (at : ℕ) → line_at at (drop j limits) (drop next text) ≡ broken at
+      lost w at =
+          let read : number_at at (cond (ltb (j + 1) (length limits)) 32 10) (get_or limits j 0) (drop next text) ≡ broken at = rw (← e) (w.same at) in
           here at l ∙ rw read
 
       laid_step : cell + length limits ≤ length before → (x : ℕ)
@@ -116,8 +115,9 @@ module _ (text : List ℕ) (from : ℕ) (limits : List ℕ) (cell : ℕ) (before
           ∙ ap (λ (k : ℕ). laid_at (cell + k) (x ∷ []) (laid_at cell v.row before)) (sym v.wide)
           ∙ laid_next cell v.row (x ∷ []) before (omega (arith, v.wide))
 
-      pub line_step : cell + length limits ≤ length before → n.found ≡ true → InLine (set table (cell + j) n.value) n.next (j + 1)
-      line_step room t = record {
+      pub line_step : cell + length limits ≤ length before → (n : Numeral) → ReadsNumber text next stop (get_or limits j 0) (Some n)
+          → InLine (set table (cell + j) n.value) n.next (j + 1)
+      line_step room n w = record {
         row = v.row ++ (n.value ∷ []);
         wide = rw length-append (omega (arith, v.wide));
         few = omega arith;
@@ -125,27 +125,27 @@ module _ (text : List ℕ) (from : ℕ) (limits : List ℕ) (cell : ℕ) (before
         long = length-set table (cell + j) n.value ∙ v.long;
         within = w.within;
         same = λ at.
-            v.same at ∙ ap (front v.row) (got at t)
+            v.same at ∙ ap (front v.row) (got n w at)
             ∙ rw add-one (front_more v.row n.value (line_at at (drop (suc j) limits) (drop n.next text)));
       }
 
       -- a number is broken
-      pub line_broken : n.found ≡ false → (r : Line) → r.found ≡ false → r.next ≤ length text → ReadsLine text from limits cell before table r
-      line_broken g r f h = record {
+      pub line_broken : ReadsNumber text next stop (get_or limits j 0) None → ReadsLine text from limits cell before table None
+      line_broken w = record {
         row = v.row;
-        same = λ at. v.same at ∙ ap (front v.row) (lost at g) ∙ rw f;
-        wide = λ t. clash r.found t f;
+        same = λ at. v.same at ∙ ap (front v.row) (lost w at);
+        wide = tt;
         cells = v.cells;
-        within = h;
+        within = tt;
       }
 
     -- all are read
-    pub line_end : length limits ≤ j → ReadsLine text from limits cell before table (record { found = true; next = next })
+    pub line_end : length limits ≤ j → ReadsLine text from limits cell before table (Some next)
     unfolding line_at
     line_end l = record {
       row = v.row;
       same = λ at. v.same at ∙ rw (drop_of_length-le limits l, append-nil);
-      wide = λ t. omega (arith, v.wide, v.few);
+      wide = omega (arith, v.wide, v.few);
       cells = v.cells;
       within = v.within;
     }
@@ -186,11 +186,11 @@ module _ (text : List ℕ) (from : ℕ) (limits : List ℕ) (n : ℕ) (before : 
     unfolding lines_at
     here' at l = rw (turns n i l)
 
-    pub lines_step : i < n → n * length limits ≤ length before → {table' : List ℕ} (r : Line) → r.found ≡ true
-        → ReadsLine text next limits (i * length limits) table table' r → InLines table' r.next (i + 1)
+    pub lines_step : i < n → n * length limits ≤ length before → {table' : List ℕ} (on : ℕ)
+        → ReadsLine text next limits (i * length limits) table table' (Some on) → InLines table' on (i + 1)
     unfolding flat
-    lines_step l room {table'} r t w =
-        let wide : length w.row ≡ length limits = w.wide t in
+    lines_step l room {table'} on w =
+        let wide : length w.row ≡ length limits = w.wide in
         let fits : i * length limits + length limits ≤ length before = room_for i l room in
         let place : i * length limits ≡ 0 + length (flat v.rows) = omega (arith, v.size) in
         let joined : flat (v.rows ++ (w.row ∷ [])) ≡ flat v.rows ++ w.row =
@@ -207,36 +207,36 @@ module _ (text : List ℕ) (from : ℕ) (limits : List ℕ) (n : ℕ) (before : 
           within = w.within;
           same = λ at.
               let next' : lines_at (at + i) limits (n - i) (drop next text)
-              ≡ after (lines_at (at + i + 1) limits (n - (i + 1)) (drop r.next text)) (λ rs behind. took (w.row ∷ rs) behind) =
-              here' at l ∙ rw (w.same (at + i), t)
+              ≡ after (lines_at (at + i + 1) limits (n - (i + 1)) (drop on text)) (λ rs behind. took (w.row ∷ rs) behind) =
+              here' at l ∙ rw (w.same (at + i))
               in
-              let on : at + i + 1 ≡ at + (i + 1) = omega arith in
+              let far : at + i + 1 ≡ at + (i + 1) = omega arith in
               v.same at
               ∙ ap (front v.rows) next'
-              ∙ front_more v.rows w.row (lines_at (at + i + 1) limits (n - (i + 1)) (drop r.next text))
-              ∙ ap (λ (k : ℕ). front (v.rows ++ (w.row ∷ [])) (lines_at k limits (n - (i + 1)) (drop r.next text))) on;
+              ∙ front_more v.rows w.row (lines_at (at + i + 1) limits (n - (i + 1)) (drop on text))
+              ∙ ap (λ (k : ℕ). front (v.rows ++ (w.row ∷ [])) (lines_at k limits (n - (i + 1)) (drop on text))) far;
         }
 
-    pub lines_broken : i < n → {table' : List ℕ} (r : Line) → r.found ≡ false
-        → ReadsLine text next limits (i * length limits) table table' r → ReadsLines text from limits n before table' (record { done = i; next = next })
-    lines_broken l {table'} r f w = record {
+    pub lines_broken : i < n → {table' : List ℕ} → ReadsLine text next limits (i * length limits) table table' None
+        → ReadsLines text from limits n before table' (Err i)
+    lines_broken l {table'} w = record {
       rows = v.rows;
       same = λ at.
-          let stop : lines_at (at + i) limits (n - i) (drop next text) ≡ broken (at + i) = here' at l ∙ rw (w.same (at + i), f) in
-          v.same at ∙ ap (front v.rows) stop ∙ rw (lt-ltb i n l);
-      cells = λ e. absurd (omega arith);
-      few = v.few;
-      within = v.within;
+          let stop : lines_at (at + i) limits (n - i) (drop next text) ≡ broken (at + i) = here' at l ∙ rw (w.same (at + i)) in
+          v.same at ∙ ap (front v.rows) stop;
+      cells = tt;
+      few = l;
+      within = tt;
     }
 
-    pub lines_end : n ≤ i → ReadsLines text from limits n before table (record { done = n; next = next })
+    pub lines_end : n ≤ i → ReadsLines text from limits n before table (Ok next)
     unfolding lines_at
     lines_end l =
         let none : n - i ≡ 0 = omega arith in
         record {
           rows = v.rows;
-          same = λ at. v.same at ∙ rw (none, append-nil, le-ltb n n (omega arith));
-          cells = λ _. v.cells;
-          few = omega arith;
+          same = λ at. v.same at ∙ rw (none, append-nil);
+          cells = v.cells;
+          few = tt;
           within = v.within;
         }

@@ -4,8 +4,7 @@ use Rattle.std.specs.Prelude.{◌≡◌, List, [], ℕ, ◌≤◌}
 use Rattle.rules.specs.Calls as calls
 use Rattle.rules.specs.Calls.{Store}
 use Rattle.rules.specs.Demand.{Demand3}
-use Rattle.message.specs.declared.Code.{Code}
-use Rattle.message.specs.Answers.{number as number_of}
+use Rattle.message.specs.Answers.{Code, number as number_of}
 use Rattle.message.specs.Real.{Real}
 use Rattle.queues.specs.Cols.{Cols, live}
 use Rattle.queues.specs.Meant.{buffer_of}

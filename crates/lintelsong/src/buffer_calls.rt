@@ -16,7 +16,7 @@ ghost use Rattle.lintelsong.specs.Closed.{cols_of, GoodBuffer, Gives};
 
 use crate::Buffer;
 use buffer_reads::{Counts, Filled};
-use message::{Code, Message, SeenAccount, SeenMessage};
+use message::{Code, Message};
 use numbers::Place;
 
 // What a call answers: its code, and the buffer afterwards.
@@ -168,7 +168,7 @@ impl Buffer {
     // ---- the walk in order
 
     // The account at a place of the order; none past the end.
-    pub fn account_at(self, place: Place) -> SeenAccount
+    pub fn account_at(self, place: Place) -> Option<[u8; 32]>
         requires { GoodBuffer self }
         ensures { result ≡ seen_account (account_at Real place.0 (meant (cols_of self)).now) }
     {
@@ -176,7 +176,7 @@ impl Buffer {
     }
 
     // The message at a position of the queue at a place of the order; none past either end.
-    pub fn message_at(self, place: Place, position: usize) -> SeenMessage
+    pub fn message_at(self, place: Place, position: usize) -> Option<Message>
         requires { GoodBuffer self }
         ensures { result ≡ seen_message (message_at Real place.0 position (meant (cols_of self)).now) }
     {

@@ -10,8 +10,9 @@ ghost use Rattle.group_reads.specs.Shown.{counts_of, seen_id, seen_slot, account
 ghost use Rattle.lintelsong.specs.Closed.{table_of, GoodGroup, SetsUp, Joins};
 
 use crate::Group;
-use group_reads::{Counts, SeenId, SeenSlot};
-use message::{Code, SeenAccount, SeenMessage};
+use group_reads::{Counts, SeenSlot};
+use message::{Code, Message};
+use numbers::SlotId;
 
 // What a set-up answers.
 #[derive(Clone, Copy)]
@@ -79,7 +80,7 @@ impl Group {
     }
 
     // The last slot number that was given; it is not the number of slots.
-    pub fn last_slot(self) -> SeenId
+    pub fn last_slot(self) -> Option<SlotId>
         requires { GoodGroup self }
         ensures { result ≡ seen_id (meant (table_of self)).now.last }
     {
@@ -89,7 +90,7 @@ impl Group {
     // ---- the walks
 
     // The slot at a position, by rising number; none past the end.
-    pub fn slot_at(self, position: usize) -> SeenSlot
+    pub fn slot_at(self, position: usize) -> Option<SeenSlot>
         requires { GoodGroup self }
         ensures { result ≡ seen_slot (nth position (meant (table_of self)).now.slots) }
     {
@@ -97,7 +98,7 @@ impl Group {
     }
 
     // The k-th account of the slot at a position; none past either end.
-    pub fn slot_account_at(self, position: usize, k: usize) -> SeenAccount
+    pub fn slot_account_at(self, position: usize, k: usize) -> Option<[u8; 32]>
         requires { GoodGroup self }
         ensures { result ≡ seen_account (nth k (accounts_at (nth position (meant (table_of self)).now.slots))) }
     {
@@ -105,7 +106,7 @@ impl Group {
     }
 
     // The account with the k-th list; none past the end.
-    pub fn account_at(self, k: usize) -> SeenAccount
+    pub fn account_at(self, k: usize) -> Option<[u8; 32]>
         requires { GoodGroup self }
         ensures { result ≡ seen_account (nth k (accounts_of Real (meant (table_of self)).now.lists)) }
     {
@@ -113,7 +114,7 @@ impl Group {
     }
 
     // The k-th message of an account's list; none past the end or without a list.
-    pub fn message_at(self, name: [u8; 32], k: usize) -> SeenMessage
+    pub fn message_at(self, name: [u8; 32], k: usize) -> Option<Message>
         requires { GoodGroup self }
         ensures { result ≡ seen_message (nth k (list_at Real name (meant (table_of self)).now.lists)) }
     {
@@ -121,7 +122,7 @@ impl Group {
     }
 
     // The k-th slot number that the bucket of a count lists; none past either end.
-    pub fn bucket_at(self, count: usize, k: usize) -> SeenId
+    pub fn bucket_at(self, count: usize, k: usize) -> Option<SlotId>
         requires { GoodGroup self }
         ensures { result ≡ seen_id (nth k (get_or (meant (table_of self)).now.index count [])) }
     {

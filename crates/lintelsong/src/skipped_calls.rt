@@ -7,7 +7,6 @@ ghost use Rattle.message.specs.Seen.{seen_account};
 ghost use Rattle.lintelsong.specs.Closed.{GoodSet, accounts_in};
 
 use crate::Skipped;
-use message::SeenAccount;
 
 impl Skipped {
     // A set of no accounts.
@@ -35,7 +34,7 @@ impl Skipped {
     }
 
     // The account at a position, in the order in which they joined; none past the end.
-    pub fn account_at(self, position: usize) -> SeenAccount
+    pub fn account_at(self, position: usize) -> Option<[u8; 32]>
         requires { GoodSet self }
         ensures { result ≡ seen_account (nth position (accounts_in self)) }
     {

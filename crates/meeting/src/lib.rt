@@ -2,7 +2,7 @@
 // slot is given by its position among the slots and its record, an account by its party; the places of the order are the parties below `places`.
 #![tactic(auto)]
 
-ghost use Rattle.std.specs.Prelude.{◌≡◌, cond, false, ◌+◌, ◌<◌, length};
+ghost use Rattle.std.specs.Prelude.{◌≡◌, cond, false, ◌+◌, ◌<◌};
 ghost use Rattle.moves.specs.Moves.{alone};
 ghost use Rattle.meaning.specs.Meaning.{columns};
 ghost use Rattle.meaning.specs.Walks.{Ready, says_skip, moves_at, full_c, try_c, meet_c};
@@ -18,13 +18,11 @@ const NOWHERE: u8 = 255;
 pub fn skips(mark: u8) -> bool
     ensures { result ≡ says_skip mark }
 {
-    if mark == 1 {
-        return true;
-    }
-    mark == 2
+    mark == 1 || mark == 2
 }
 
 // Whether the slot has no room left.
+#[tactic(auto, unfolding(meaning::specs::Walks::full_c))]
 pub fn full(record: Slot, height: usize) -> bool
     ensures { result ≡ full_c height («record».ints + «record».exts) }
 {
@@ -35,21 +33,16 @@ pub fn full(record: Slot, height: usize) -> bool
 pub fn stops(moved: bool, record: Slot, height: usize) -> bool
     ensures { result ≡ cond moved (full_c height («record».ints + «record».exts)) false }
 {
-    if moved {
-        return full(record, height);
-    }
-    false
+    moved && full(record, height)
 }
 
 // Whether the account that the walk meets is moved: it is not in the group, and not marked for skipping.
+#[tactic(auto, unfolding(meaning::specs::Walks::moves_at))]
 pub fn moving(home: &[u8; 1280], mark: &[u8; 1280], party: usize) -> bool
-    requires { (party < 1280) × ((length home.now ≡ 1280) × (length mark.now ≡ 1280)) }
+    requires { party < 1280 }
     ensures { result ≡ moves_at home.now mark.now party }
 {
-    if home[party] != NOWHERE {
-        return false;
-    }
-    !skips(mark[party])
+    home[party] == NOWHERE && !skips(mark[party])
 }
 
 // ---- one account

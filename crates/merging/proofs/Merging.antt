@@ -9,9 +9,7 @@ use borrow.Author.Tests.{ne_eqb}
 use Rattle.rules.specs.Fill.{next_number, group_ints, group_exts, renumbered, listed_too}
 use Rattle.rules.specs.Queues.{all_msgs}
 use Rattle.rules.specs.Calls as calls
-use Rattle.message.specs.declared.Code.{Code}
-use Rattle.message.specs.declared.Code.TheVariants.{Done, SetUp, Special, WrongKind, Full, Crowded, NoTransaction, InTransaction, HoldsExternal, TooLarge, FewKeys, ManySkips, NumbersUsedUp, Overfull, ManySlots, SharedAccount}
-use Rattle.message.specs.Answers.{number as number_of}
+use Rattle.message.specs.Answers.{Code, Done, number as number_of}
 use Rattle.message.specs.Real.{Real}
 use Rattle.queues.specs.Meant.{order_of}
 use Rattle.queues.proofs.Counts.{both_kinds}
@@ -43,28 +41,9 @@ pub record BucketsOf (l r : Table) (cells : List ℕ) : Type 0 where
   pub good : GoodBuckets cells
   pub holds : index cells ≡ listed_too Real (renumbered Real (next_number Real (group_of l).last) (group_of r).slots) 0 (index l.buckets)
 
--- only one code has the number 0
-pub done_of : (c : Code) → number_of c ≡ 0 → c ≡ Done
-done_of Done e = refl
-done_of SetUp e = absurd (omega arith)
-done_of Special e = absurd (omega arith)
-done_of WrongKind e = absurd (omega arith)
-done_of Full e = absurd (omega arith)
-done_of Crowded e = absurd (omega arith)
-done_of NoTransaction e = absurd (omega arith)
-done_of InTransaction e = absurd (omega arith)
-done_of HoldsExternal e = absurd (omega arith)
-done_of TooLarge e = absurd (omega arith)
-done_of FewKeys e = absurd (omega arith)
-done_of ManySkips e = absurd (omega arith)
-done_of NumbersUsedUp e = absurd (omega arith)
-done_of Overfull e = absurd (omega arith)
-done_of ManySlots e = absurd (omega arith)
-done_of SharedAccount e = absurd (omega arith)
-
 -- past the refusal the join is taken
-pub joinable : {l r : Table} {code : Code} → Good l → Good r → code ≡ join_code_t l r → number_of code ≡ 0 → Joinable l r
-joinable {code = code} g h e z = record { left = g; right = h; taken = sym e ∙ done_of code z }
+pub joinable : {l r : Table} {code : Code} → Good l → Good r → code ≡ join_code_t l r → code ≡ Done → Joinable l r
+joinable g h e z = record { left = g; right = h; taken = sym e ∙ z }
 
 -- a group's counts are few
 kinds_few : (t : Table) → Good t → count t 4 + count t 5 ≤ 1024
@@ -81,13 +60,11 @@ few_of t g (suc (suc (suc (suc (suc zero))))) a b = omega (arith, kinds_few t g)
 few_of t g (suc (suc (suc (suc (suc (suc i)))))) a b = absurd (omega arith)
 
 -- a code can be decided
-pub rooms : (t : Table) → Good t → Rooms t.numbers (length t.accounts)
+pub rooms : (t : Table) → Good t → Rooms t.numbers
 rooms t g = record {
-  many = g.lengths.numbers;
   slots = omega (arith, g.slots, g.S·high);
   held = g.accounts;
   last = g.last;
-  table = g.lengths.accounts;
 }
 
 -- ---- all rows; `first` is the number of the first new slot
@@ -141,8 +118,6 @@ module _ {l r : Table} (j : Joinable l r) where
       };
       few = record {
         few = omega (arith, j.right.slots, j.right.S·high);
-        ints_long = j.right.lengths.ints;
-        exts_long = j.right.lengths.exts;
         low = λ i h. omega (arith, slot_small r j.right i h);
       };
       lists = λ counts c. listable_from l r j.left j.right j.taken counts c.each c.long;

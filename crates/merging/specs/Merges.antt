@@ -1,8 +1,7 @@
 -- What the contract of a join on lent columns cites, and those of its parts. Assumes nothing.
 use Rattle.std.specs.Prelude.{◌≡◌, cond, List, [], ℕ, ◌≤◌, eqb, length}
 use Rattle.rules.specs.Calls as calls
-use Rattle.message.specs.declared.Code.{Code}
-use Rattle.message.specs.Answers.{number as number_of}
+use Rattle.message.specs.Answers.{Code, number as number_of}
 use Rattle.message.specs.Real.{Real}
 use Rattle.slots.specs.Table.{Table, table, count}
 use Rattle.slots.specs.Meant.{meant}

@@ -148,10 +148,7 @@ pub fn join(
     requires { Good (table number.old ints.old exts.old accounts.old home.old owner.old kind.old form.old time.old address.old hash.old buckets.old numbers.old) × Good (table number2.old ints2.old exts2.old accounts2.old home2.old owner2.old kind2.old form2.old time2.old address2.old hash2.old buckets2.old numbers2.old) }
     ensures { Merges (table number.old ints.old exts.old accounts.old home.old owner.old kind.old form.old time.old address.old hash.old buckets.old numbers.old) (table number2.old ints2.old exts2.old accounts2.old home2.old owner2.old kind2.old form2.old time2.old address2.old hash2.old buckets2.old numbers2.old) result (table number.new ints.new exts.new accounts.new home.new owner.new kind.new form.new time.new address.new hash.new buckets.new numbers.new) (table number2.new ints2.new exts2.new accounts2.new home2.new owner2.new kind2.new form2.new time2.new address2.new hash2.new buckets2.new numbers2.new) }
 {
-    let code = joins::join::decide(numbers, accounts, numbers2, accounts2);
-    if message::number_of(code) != 0 {
-        return code;
-    }
+    joins::join::decide(numbers, accounts, numbers2, accounts2)?;
     add(
         number, ints, exts, accounts, home, owner, kind, form, time, address, hash, buckets,
         numbers, ints2, exts2, accounts2, home2, owner2, kind2, form2, time2, address2, hash2,
@@ -161,5 +158,5 @@ pub fn join(
         number2, ints2, exts2, accounts2, home2, owner2, kind2, form2, time2, address2, hash2,
         buckets2, numbers2,
     );
-    code
+    Ok(())
 }

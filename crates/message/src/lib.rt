@@ -3,7 +3,7 @@
 #![tactic(auto)]
 
 ghost use Rattle.std.specs.Prelude.{◌≡◌};
-ghost use Rattle.message.specs.Answers.{number, kind_of};
+ghost use Rattle.message.specs.Answers.{number, refusal_number, kind_of};
 ghost use Rattle.message.specs.Records.{account_of, blank_message, drops};
 
 // Whether the destination is an address of the standard form.
@@ -24,20 +24,6 @@ pub struct Message {
     pub hash: [u8; 32],
 }
 
-// What a walk gives: an account, if there is one.
-#[derive(Clone, Copy)]
-pub struct SeenAccount {
-    pub found: bool,
-    pub account: [u8; 32],
-}
-
-// A message, if there is one.
-#[derive(Clone, Copy)]
-pub struct SeenMessage {
-    pub found: bool,
-    pub message: Message,
-}
-
 // What a kind byte says.
 #[derive(Clone, Copy)]
 pub enum Kind {
@@ -53,11 +39,9 @@ pub enum Filter {
     Below(u64),
 }
 
-// What a call answers; `number_of` gives the number of each.
+// Why a call is refused. The number of each stands above it.
 #[derive(Clone, Copy)]
-pub enum Code {
-    // 0: done
-    Done,
+pub enum Refusal {
     // 1: set-up numbers outside their ranges
     SetUp,
     // 2: add: special mark set
@@ -90,14 +74,19 @@ pub enum Code {
     SharedAccount,
 }
 
+// What a call answers: done, or why it was refused.
+pub type Code = Result<(), Refusal>;
+
 // The decision on the kind byte: all codes from 2 to 255 are one refused range.
-pub fn kind_of(kind: u8) -> Kind
-    ensures { result ≡ kind_of kind }
-{
-    match kind {
-        0 => Kind::Internal,
-        1 => Kind::External,
-        2..=255 => Kind::Refused,
+impl From<u8> for Kind {
+    ghost from_gives = { λ n k. k ≡ kind_of n };
+
+    fn from(kind: u8) -> Kind {
+        match kind {
+            0 => Kind::Internal,
+            1 => Kind::External,
+            2..=255 => Kind::Refused,
+        }
     }
 }
 
@@ -139,26 +128,37 @@ pub fn blank() -> Message
     }
 }
 
-// The number of a code.
+impl From<Refusal> for u8 {
+    ghost from_gives = { λ r n. n ≡ refusal_number r };
+
+    fn from(r: Refusal) -> u8 {
+        match r {
+            Refusal::SetUp => 1,
+            Refusal::Special => 2,
+            Refusal::WrongKind => 3,
+            Refusal::Full => 4,
+            Refusal::Crowded => 5,
+            Refusal::NoTransaction => 6,
+            Refusal::InTransaction => 7,
+            Refusal::HoldsExternal => 8,
+            Refusal::TooLarge => 9,
+            Refusal::FewKeys => 10,
+            Refusal::ManySkips => 11,
+            Refusal::NumbersUsedUp => 12,
+            Refusal::Overfull => 13,
+            Refusal::ManySlots => 14,
+            Refusal::SharedAccount => 15,
+        }
+    }
+}
+
+// The number of a code: 0 for done, or that of the refusal.
+// stays: no `From`, for neither `Result` nor `u8` is a type of this crate.
 pub fn number_of(c: Code) -> u8
     ensures { result ≡ number c }
 {
     match c {
-        Code::Done => 0,
-        Code::SetUp => 1,
-        Code::Special => 2,
-        Code::WrongKind => 3,
-        Code::Full => 4,
-        Code::Crowded => 5,
-        Code::NoTransaction => 6,
-        Code::InTransaction => 7,
-        Code::HoldsExternal => 8,
-        Code::TooLarge => 9,
-        Code::FewKeys => 10,
-        Code::ManySkips => 11,
-        Code::NumbersUsedUp => 12,
-        Code::Overfull => 13,
-        Code::ManySlots => 14,
-        Code::SharedAccount => 15,
+        Ok(()) => 0,
+        Err(r) => u8::from(r),
     }
 }

@@ -1,2 +1,2 @@
--- What is seen of messages in lent columns, and what it asks of them.
+-- What is seen of messages in lent columns.
 pub mod Messages

@@ -3,10 +3,9 @@
 #![tactic(auto)]
 
 ghost use Rattle.std.specs.Prelude.{◌≡◌, ◌≤◌, length, get_or};
-ghost use Rattle.accounts_seen.specs.Accounts.{AccountsIn};
-ghost use Rattle.messages_seen.specs.Messages.{row_for, message_found, MessagesIn};
+ghost use Rattle.messages_seen.specs.Messages.{row_for, message_found};
 
-use message::SeenMessage;
+use message::Message;
 
 // The row of the k-th message of an account.
 fn row_for(
@@ -16,12 +15,11 @@ fn row_for(
     name: [u8; 32],
     k: usize,
 ) -> usize
-    requires { AccountsIn (length accounts.now) numbers.now × (get_or numbers.now 3 0 ≤ length owner.now) }
+    requires { (get_or numbers.now 2 0 ≤ 1024) × (get_or numbers.now 3 0 ≤ length owner.now) }
     ensures { result ≡ row_for accounts.now owner.now numbers.now name k }
 {
     let held = numbers[2] as usize;
-    let x = name;
-    let seat = rows::find_row(accounts, held, &x);
+    let seat = rows::find_row(accounts, held, &name);
     let n = numbers[3] as usize;
     queues::row_of(owner, n, seat as u16, k)
 }
@@ -38,19 +36,14 @@ pub fn message_at(
     numbers: &[u64; 16],
     name: [u8; 32],
     k: usize,
-) -> SeenMessage
-    requires { AccountsIn (length accounts.now) numbers.now × MessagesIn (length owner.now) (length kind.now) (length form.now) (length time.now) (length address.now) (length hash.now) numbers.now }
+) -> Option<Message>
+    requires { (get_or numbers.now 2 0 ≤ 1024) × (get_or numbers.now 3 0 ≤ 1024) }
     ensures { result ≡ message_found kind.now form.now time.now address.now hash.now numbers.now (row_for accounts.now owner.now numbers.now name k) }
 {
     let row = row_for(accounts, owner, numbers, name, k);
     if row < numbers[3] as usize {
-        return SeenMessage {
-            found: true,
-            message: records::message_at(kind, form, time, address, hash, row),
-        };
-    }
-    SeenMessage {
-        found: false,
-        message: message::blank(),
+        Some(records::message_at(kind, form, time, address, hash, row))
+    } else {
+        None
     }
 }

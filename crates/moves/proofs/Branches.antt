@@ -1,41 +1,39 @@
 -- The branches of a check and an entering, each a lemma over the shut rules on columns; and the room that each push finds. Assumes nothing.
 use mathlib.Core.Path.{◌≡◌, sym}
 use mathlib.Core.List.{List}
-use Prim.Native.Nat.{ℕ, ◌+◌, ◌<◌, ◌≤◌, ◌-◌}
+use Prim.Native.Nat.{ℕ, ◌+◌, ◌<◌, ◌≤◌}
 use native.Mathlib.Omega.{arith}
 use lib.ListN.{length, get_or, set}
 use lib.Dec.{eqb}
 use borrow.Author.Tests.{eq-eqb, ne_eqb}
 use Rattle.moves.specs.Good.{many, GoodMarks}
-use Rattle.moves.specs.Moves.{Marks, marks, tally, sum, check_marks, Homes, homes, enter_homes, nowhere}
+use Rattle.moves.specs.declared.Tally.{Tally}
+use Rattle.moves.specs.Moves.{Marks, marks, tally, costs, check_marks, Homes, homes, enter_homes, nowhere}
 use Rattle.moves.proofs.Counts.{some_pass}
 
 module _ (cost : List ℕ) (p : ℕ) (m : Marks) where
-  pub check_in : get_or m.mark p 0 ≡ 2 → (r : ℕ) → r ≡ sum m.tally.ops 1
-      → marks m.mark m.joined (tally m.tally.joined m.tally.accounts m.tally.taken r) ≡ check_marks cost p m
+  pub check_in : get_or m.mark p 0 ≡ 2 → {t : Tally} → t ≡ costs m.tally 1 → marks m.mark m.joined t ≡ check_marks cost p m
   unfolding check_marks
-  check_in e r f = simp (e, f)
+  check_in e f = simp (e, f)
 
-  pub check_joins : get_or m.mark p 0 ≡ 1 → (r : ℕ) → r ≡ sum m.tally.ops (get_or cost p 0)
-      → marks (set m.mark p 2) (set m.joined m.tally.joined p) (tally (m.tally.joined + 1) m.tally.accounts m.tally.taken r)
-      ≡ check_marks cost p m
+  pub check_joins : get_or m.mark p 0 ≡ 1 → {t : Tally} → t ≡ costs m.tally (get_or cost p 0)
+      → marks (set m.mark p 2) (set m.joined m.tally.joined p) (tally (m.tally.joined + 1) t.accounts t.taken t.ops) ≡ check_marks cost p m
   unfolding check_marks
-  check_joins e r f = simp (e, f)
+  check_joins e f = rw f (simp e)
 
-  pub check_out : (get_or m.mark p 0 ≡ 2 → ⊥) → (get_or m.mark p 0 ≡ 1 → ⊥) → (r : ℕ) → r ≡ sum m.tally.ops (get_or cost p 0)
-      → marks m.mark m.joined (tally m.tally.joined m.tally.accounts m.tally.taken r) ≡ check_marks cost p m
+  pub check_out : (get_or m.mark p 0 ≡ 2 → ⊥) → (get_or m.mark p 0 ≡ 1 → ⊥) → {t : Tally} → t ≡ costs m.tally (get_or cost p 0)
+      → marks m.mark m.joined t ≡ check_marks cost p m
   unfolding check_marks
-  check_out e g r f = simp (ne_eqb _ _ e, ne_eqb _ _ g, f)
+  check_out e g f = simp (ne_eqb _ _ e, ne_eqb _ _ g, f)
 
 module _ (p j got : ℕ) (h : Homes) where
   pub place_has : (get_or h.home p 0 ≡ nowhere → ⊥) → h ≡ enter_homes p j got h
   unfolding enter_homes
   place_has e = simp (ne_eqb _ _ e)
 
-  pub place_none : get_or h.home p 0 ≡ nowhere → got ≡ 0 → (r : ℕ) → r ≡ sum h.tally.ops 1
-      → homes h.home h.member (tally h.tally.joined h.tally.accounts h.tally.taken r) ≡ enter_homes p j got h
+  pub place_none : get_or h.home p 0 ≡ nowhere → got ≡ 0 → {t : Tally} → t ≡ costs h.tally 1 → homes h.home h.member t ≡ enter_homes p j got h
   unfolding enter_homes
-  place_none e z r f = simp (e, z, f)
+  place_none e z f = simp (e, z, f)
 
   pub place_enters : get_or h.home p 0 ≡ nowhere → (got ≡ 0 → ⊥)
       → homes (set h.home p j) (set h.member h.tally.accounts p) (tally h.tally.joined (h.tally.accounts + 1) h.tally.taken

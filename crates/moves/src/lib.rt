@@ -3,10 +3,12 @@
 // holds it, or a mark of a row that was taken or dropped.
 // `plan` does not change in a fill: cells 0 to 1,023 are the class of each row, 0 for an internal, 1 for an external, 2 for a droppable one;
 // 1,024 to 2,047 the next row of the same queue; 2,048 to 2,303 the first row of each place.
+// stays: marks, classes, homes and rows are numbers in columns and no enums or slices. The columns are the lent memory of a fill, fixed in size,
+// and every theorem of the passes speaks of them as lists of numbers (specs/Moves.antt).
 #![tactic(auto)]
 
-ghost use Rattle.std.specs.Prelude.{◌≡◌, ◌+◌, ◌-◌, ◌<◌, ◌≤◌, length, eqb};
-ghost use Rattle.moves.specs.Moves.{marks, check_marks, homes, enter_homes, nowhere};
+ghost use Rattle.std.specs.Prelude.{◌≡◌, ◌+◌, ◌-◌, ◌<◌, ◌≤◌, eqb};
+ghost use Rattle.moves.specs.Moves.{costs, marks, check_marks, homes, enter_homes, nowhere};
 ghost use Rattle.moves.specs.Good.{GoodMarks, many};
 
 // The counts of a fill: parties that joined the skipped set, accounts in the group, rows taken, operations.
@@ -16,6 +18,18 @@ pub struct Tally {
     pub accounts: usize,
     pub taken: usize,
     pub ops: u64,
+}
+
+impl Tally {
+    // The counts with so many operations more; they stop at the greatest number.
+    pub fn spend(self, ops: u64) -> Tally
+        ensures { result ≡ costs self ops }
+    {
+        Tally {
+            ops: numbers::saturating_sum(self.ops, ops),
+            ..self
+        }
+    }
 }
 
 // What a fill does not change: how many rows and places there are, and the height.
@@ -54,36 +68,23 @@ pub fn check(
     tally: Tally,
 ) -> Tally
     requires good_marks { GoodMarks (marks mark.old joined.old tally) }
-    requires cost_len { (length cost.now ≡ 1280) × (party < 1280) }
+    requires party_bound { party < 1280 }
     ensures { marks mark.new joined.new result ≡ check_marks cost.now party (marks mark.old joined.old tally) }
 {
     let m = mark[party];
-    let next = tally.joined;
     if m == 2 {
-        return Tally {
-            joined: next,
-            accounts: tally.accounts,
-            taken: tally.taken,
-            ops: numbers::saturating_sum(tally.ops, 1),
-        };
+        return tally.spend(1);
     }
-    let ops = numbers::saturating_sum(tally.ops, cost[party]);
+    let spent = tally.spend(cost[party]);
     if m == 1 {
         mark[party] = 2;
-        joined[next] = party as u16;
+        joined[tally.joined] = party as u16;
         return Tally {
-            joined: next + 1,
-            accounts: tally.accounts,
-            taken: tally.taken,
-            ops,
+            joined: tally.joined + 1,
+            ..spent
         };
     }
-    Tally {
-        joined: next,
-        accounts: tally.accounts,
-        taken: tally.taken,
-        ops,
-    }
+    spent
 }
 
 // ---- a slot, and who is in the group
@@ -92,7 +93,7 @@ pub fn check(
 pub fn held(record: Slot) -> usize
     ensures { result ≡ «record».ints + «record».exts }
 {
-    numbers::wide8(record.ints) + numbers::wide8(record.exts)
+    usize::from(record.ints) + usize::from(record.exts)
 }
 
 // The slot's counts grow by what was taken.
@@ -101,8 +102,8 @@ pub fn grow(record: Slot, took: Took) -> Slot
     ensures { (result.ints ≡ «record».ints + took.ints) × (result.exts ≡ «record».exts + (took.got - took.ints)) }
 {
     Slot {
-        ints: (numbers::wide8(record.ints) + took.ints) as u8,
-        exts: (numbers::wide8(record.exts) + (took.got - took.ints)) as u8,
+        ints: (usize::from(record.ints) + took.ints) as u8,
+        exts: (usize::from(record.exts) + (took.got - took.ints)) as u8,
     }
 }
 
@@ -116,29 +117,19 @@ pub fn enter(
     tally: Tally,
 ) -> Tally
     requires party_bound { (party < 1280) × (slot < 64) }
-    requires home_len { (length home.old ≡ 1280) × (length member.old ≡ 1280) }
     requires home_bound { tally.accounts + many (eqb nowhere) home.old ≤ 1280 }
     ensures { homes home.new member.new result ≡ enter_homes party slot got (homes home.old member.old tally) }
 {
     if home[party] != NOWHERE {
         return tally;
     }
-    let next = tally.accounts;
     if got == 0 {
-        let spent = numbers::saturating_sum(tally.ops, 1);
-        return Tally {
-            joined: tally.joined,
-            accounts: next,
-            taken: tally.taken,
-            ops: spent,
-        };
+        return tally.spend(1);
     }
     home[party] = slot as u8;
-    member[next] = party as u16;
+    member[tally.accounts] = party as u16;
     Tally {
-        joined: tally.joined,
-        accounts: next + 1,
-        taken: tally.taken,
-        ops: tally.ops,
+        accounts: tally.accounts + 1,
+        ..tally
     }
 }

@@ -4,7 +4,7 @@
 ghost use Rattle.std.specs.Prelude.{◌≡◌, ◌+◌, ◌<◌};
 ghost use Rattle.new_slots.specs.Fronts.{further_on, dropped_at};
 
-use moves::{Slot, Tally};
+use moves::Tally;
 use numbers::SlotId;
 
 // The position of the next slot, the last number given, and how many slots are still to be opened.
@@ -15,11 +15,10 @@ pub struct Front {
     pub left: usize,
 }
 
-// Where the first pass stopped: the next place, the table of the slots, the counts, how many slots there are, and the last number given.
+// Where the first pass stopped: the next place, the counts, how many slots there are, and the last number given.
 #[derive(Clone, Copy)]
 pub struct Passed {
     pub at: usize,
-    pub table: [Slot; 64],
     pub tally: Tally,
     pub slots: usize,
     pub last: SlotId,
@@ -47,13 +46,12 @@ pub fn onward(front: Front) -> Front
 }
 
 // The next slot stays empty and is dropped: there is one slot less than was begun, but its number is given.
-pub fn dropped(front: Front, at: usize, table: [Slot; 64], tally: Tally) -> Passed
+pub fn dropped(front: Front, at: usize, tally: Tally) -> Passed
     requires { front.given < 65535 }
-    ensures { result ≡ dropped_at front at table tally }
+    ensures { result ≡ dropped_at front at tally }
 {
     Passed {
         at,
-        table,
         tally,
         slots: front.slot,
         last: SlotId((front.given + 1) as u16),

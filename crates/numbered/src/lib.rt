@@ -2,7 +2,7 @@
 // and `run` does the passes on them.
 #![tactic(auto)]
 
-ghost use Rattle.std.specs.Prelude.{◌≡◌, ◌≤◌, length};
+ghost use Rattle.std.specs.Prelude.{◌≡◌, ◌≤◌};
 ghost use Rattle.buckets.specs.Cells.{GoodBuckets};
 ghost use Rattle.entry.specs.Entry.{sayings, Spoken};
 ghost use Rattle.works.specs.Begin.{accounts, held, slots as slots_of, FitAccounts, FitRows, Fit, homes_w, judged_by, rows_w, works_w, begin_w};
@@ -49,7 +49,7 @@ fn judge_all(
     n: usize,
     default: u64,
 ) -> Judged
-    requires order_len { (length order.now ≡ 16384) × (places ≤ 256) × (length group.now ≡ 32768) × (members ≤ 1024) × (length member.now ≡ 1280) }
+    requires few { (places ≤ 256) × (members ≤ 1024) }
     requires spoken { Spoken (sayings set.now k names.now verdicts.now costs.now n default) }
     ensures { result ≡ judged_by (sayings set.now k names.now verdicts.now costs.now n default) order.now places group.now members member.now }
 {
@@ -100,7 +100,8 @@ fn together(
     ensures { result ≡ works_w h j r (slots_of ints.now exts.now number.now buckets) height }
 {
     let mut listed = [0u16; 1024];
-    let count = entry::list_below(buckets, height, &mut listed);
+    let count = entry::list_below(&buckets, height, &mut listed);
+    // stays: tried without these variables, and got no proof: a literal takes an array from a variable, not from a field.
     let owner = r.owner;
     let plan = r.plan;
     let home = h.home;
@@ -158,9 +159,8 @@ pub fn begin(
     ensures { result ≡ begin_w (accounts order.now places group.now homes.now members) (held owner.now kind.now time.now n) (slots_of ints.now exts.now number.now buckets) (sayings set.now k names.now verdicts.now costs.now rows default) filter height }
 {
     let h = homes_of(order, places, group, homes, members);
-    let member = h.member;
     let j = judge_all(
-        order, places, group, members, &member, set, k, names, verdicts, costs, rows, default,
+        order, places, group, members, &h.member, set, k, names, verdicts, costs, rows, default,
     );
     let r = rows_of(owner, kind, time, n, filter);
     together(h, j, r, ints, exts, number, buckets, height)

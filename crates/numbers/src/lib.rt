@@ -1,8 +1,8 @@
-// Numbers that several crates share: the sum that stops at the greatest number, the two kinds of number that are kept apart by their
-// types, and bytes and shorts made wide enough to be an index.
+// Numbers that several crates share: the sum that stops at the greatest number, and the two kinds of number that are kept apart by their
+// types.
 #![tactic(auto)]
 
-ghost use Rattle.std.specs.Prelude.{◌≡◌, ◌+◌, ◌-◌, ◌^◌, ◌<◌, min};
+ghost use Rattle.std.specs.Prelude.{◌≡◌, ◌+◌, ◌-◌, ◌^◌, min};
 
 // A slot's number. Numbers go on from the last one given, so they are not places in the slot table.
 #[derive(Clone, Copy)]
@@ -13,23 +13,10 @@ pub struct SlotId(pub u16);
 pub struct Place(pub u16);
 
 // The sum of a and b, held at 2^64 - 1: it stops there and does not wrap round. A sum that wrapped is less than either part.
+// stays: a rule of the project: document 01 names this form, the wrapping add and a comparison, and not the library's `saturating_add`.
 pub fn saturating_sum(a: u64, b: u64) -> u64
     ensures { result ≡ min (a + b) (2 ^ 64 - 1) }
 {
     let sum = std::num::wrapping_add_u64(a, b);
     if sum < a { u64::MAX } else { sum }
-}
-
-// A byte as an index, with the bound that its type had.
-pub fn wide8(x: u8) -> usize
-    ensures { (result ≡ x) × (result < 256) }
-{
-    x as usize
-}
-
-// A short as an index, with the bound that its type had.
-pub fn wide16(x: u16) -> usize
-    ensures { (result ≡ x) × (result < 65536) }
-{
-    x as usize
 }

@@ -2,7 +2,7 @@
 // holds the slots' numbers by position.
 #![tactic(auto)]
 
-ghost use Rattle.std.specs.Prelude.{◌≡◌, [], ◌+◌, ◌<◌, ◌≤◌, length};
+ghost use Rattle.std.specs.Prelude.{◌≡◌, [], ◌+◌, ◌<◌, ◌≤◌};
 ghost use Rattle.slot_rows.specs.Rows.{ints_of, exts_of};
 ghost use Rattle.meaning.specs.Meaning.{columns};
 ghost use Rattle.meaning.specs.Walks.{Ready, walk};
@@ -14,6 +14,8 @@ use numbers::SlotId;
 
 // The first pass: `opens` slots are to be opened behind the `slots` that stand, with the numbers behind the last; each is sought an account, and
 // one still empty at the end of the order is dropped. Then the line is served.
+// stays: `front.left` counts down how many slots are left, and `new_slots::onward` says so of the whole front; a `for` would count a second time
+// beside it.
 pub fn first(
     owner: &mut [u16; 1024],
     plan: &[u16; 2304],
@@ -24,25 +26,24 @@ pub fn first(
     cost: &[u64; 1280],
     joined: &mut [u16; 1280],
     number: &mut [u16; 64],
-    table: [Slot; 64],
+    table: &mut [Slot; 64],
     fixed: Fixed,
     opens: usize,
     slots: usize,
     last: SlotId,
     tally: Tally,
 ) -> Passed
-    requires ready { Ready fixed plan.now cost.now (columns owner.old taken.old home.old member.old (ints_of table) (exts_of table) mark.old joined.old tally) }
-    requires number_len { (length number.old ≡ 64) × (slots + opens ≤ 64) × (last.0 + opens ≤ 65535) }
-    ensures { passed_c (walk result.at (columns owner.new taken.new home.new member.new (ints_of result.table) (exts_of result.table) mark.new joined.new result.tally)) number.new result.slots result.last.0 ≡ first_c plan.now cost.now fixed opens [] number.old slots last.0 0 (columns owner.old taken.old home.old member.old (ints_of table) (exts_of table) mark.old joined.old tally) }
+    requires ready { Ready fixed plan.now cost.now (columns owner.old taken.old home.old member.old (ints_of table.old) (exts_of table.old) mark.old joined.old tally) }
+    requires numbers_fit { (slots + opens ≤ 64) × (last.0 + opens ≤ 65535) }
+    ensures { passed_c (walk result.at (columns owner.new taken.new home.new member.new (ints_of table.new) (exts_of table.new) mark.new joined.new result.tally)) number.new result.slots result.last.0 ≡ first_c plan.now cost.now fixed opens [] number.old slots last.0 0 (columns owner.old taken.old home.old member.old (ints_of table.old) (exts_of table.old) mark.old joined.old tally) }
 {
     let mut line = [0u8; 320];
     let mut tail: usize = 0;
     let mut at: usize = 0;
-    let mut table = table;
     let mut now = tally;
     let mut front = Front {
         slot: slots,
-        given: numbers::wide16(last.0),
+        given: usize::from(last.0),
         left: opens,
     };
     while 0 < front.left {
@@ -54,11 +55,11 @@ pub fn first(
         );
         at = w.at;
         let left = w.record;
-        table = slot_rows::write_table(table, slot, left);
+        slot_rows::write_table(table, slot, left);
         now = w.tally;
         if moves::held(left) == 0 {
             number[slot] = 0;
-            return new_slots::dropped(front, at, table, now);
+            return new_slots::dropped(front, at, now);
         }
         if !meeting::full(left, fixed.height) {
             line[tail] = slot as u8;
@@ -70,12 +71,9 @@ pub fn first(
         owner, plan, taken, home, member, mark, cost, joined, &mut line, table, fixed, tail, at,
         now,
     );
-    let left = w.table;
-    let served = w.tally;
     Passed {
         at: w.at,
-        table: left,
-        tally: served,
+        tally: w.tally,
         slots: front.slot,
         last: SlotId(front.given as u16),
     }

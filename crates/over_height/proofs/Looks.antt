@@ -1,5 +1,5 @@
 -- What the look through the slots listed keeps, and that the list made below the height is looked at whole. Assumes nothing.
-use mathlib.Core.Path.{◌≡◌, refl, sym, ap, ◌∙◌}
+use mathlib.Core.Path.{◌≡◌, refl, sym}
 use mathlib.Core.Bool.{Bool, true, false}
 use mathlib.Core.List.{List, [], ◌∷◌}
 use Prim.Native.Nat.{ℕ, ◌+◌, ◌<◌, ◌≤◌}
@@ -10,7 +10,7 @@ use lib.Seq.{drop-cons, get_or-take}
 use borrow.Author.Tests.{lt-ltb, le-ltb}
 use Rattle.numbers.proofs.Bytes.{clash}
 use Rattle.rules.specs.World.{is_nil, some_of}
-use Rattle.columns.proofs.Laid.{length_laid, middle_laid}
+use Rattle.columns.proofs.Laid.{middle_laid}
 use Rattle.entry.specs.Entry.{Lists}
 use Rattle.over_height.specs.Heights.{held_of, some_above}
 
@@ -44,9 +44,6 @@ module _ (height : ℕ) (number ints exts : List ℕ) (slots : ℕ) (listed : Li
 module _ {made lent listed : List ℕ} {count : ℕ} (v : Lists made lent listed count) (long : length lent ≡ 1024) where
   few : 0 + length made ≤ length lent
   few = omega (arith, v.few, v.count_is)
-
-  pub listed_long : length listed ≡ 1024
-  listed_long = ap length v.cells ∙ length_laid 0 made lent few ∙ long
 
   pub listed_front : take count listed ≡ made
   listed_front = rw (v.cells, v.count_is) (middle_laid 0 made lent few)

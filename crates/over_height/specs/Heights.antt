@@ -1,5 +1,5 @@
 -- A slot listed below the height that holds more than the height. Assumes nothing.
-use Rattle.std.specs.Prelude.{◌≡◌, Bool, cond, List, ℕ, ◌+◌, ◌≤◌, ltb, length, get_or}
+use Rattle.std.specs.Prelude.{Bool, cond, List, ℕ, ◌+◌, ltb, get_or}
 use Rattle.rules.specs.World.{some_of}
 use Rattle.meaning.specs.Passes.{position_from}
 
@@ -12,10 +12,3 @@ held_of number ints exts slots x =
 -- "a bucket below the height lists a slot of more than the height"
 unfoldable pub some_above : (height : ℕ) (number ints exts : List ℕ) (slots : ℕ) → List ℕ → Bool
 some_above height number ints exts slots listed = some_of (λ x. ltb height (held_of number ints exts slots x)) listed
-
--- what the look reads
-pub record MayLook (number : List ℕ) (slots : ℕ) (listed : List ℕ) (count : ℕ) : Type 0 where
-  pub number_long : length number ≡ 64
-  pub few : slots ≤ 64
-  pub listed_long : length listed ≡ 1024
-  pub fits : count ≤ 1024

@@ -1,21 +1,21 @@
 // Whether the index lists a slot below the height that holds more than the height.
 #![tactic(auto)]
 
-ghost use Rattle.std.specs.Prelude.{◌≡◌, ◌≤◌, length, take};
+ghost use Rattle.std.specs.Prelude.{◌≡◌, ◌≤◌, take};
 ghost use Rattle.buckets.specs.Cells.{index, GoodBuckets};
 ghost use Rattle.rules.specs.World.{joined};
-ghost use Rattle.over_height.specs.Heights.{held_of, some_above, MayLook};
+ghost use Rattle.over_height.specs.Heights.{held_of, some_above};
 
 use numbers::SlotId;
 
 // How many messages the slot of this number holds, 0 if there is none.
 fn held_of(number: &[u16; 64], ints: &[u8; 64], exts: &[u8; 64], slots: usize, id: SlotId) -> usize
-    requires { (length number.now ≡ 64) × (slots ≤ 64) }
+    requires { slots ≤ 64 }
     ensures { result ≡ held_of number.now ints.now exts.now slots id.0 }
 {
     let at = positions::position_of(number, slots, id);
     if at < slots {
-        return numbers::wide8(ints[at]) + numbers::wide8(exts[at]);
+        return usize::from(ints[at]) + usize::from(exts[at]);
     }
     0
 }
@@ -30,16 +30,13 @@ fn some_above(
     count: usize,
     height: usize,
 ) -> bool
-    requires { MayLook number.now slots listed.now count }
+    requires { (slots ≤ 64) × (count ≤ 1024) }
     ensures { result ≡ some_above height number.now ints.now exts.now slots (take count listed.now) }
 {
-    let mut k: usize = 0;
-    while k < count {
-        let x: u16 = listed[k];
+    for &x in &listed[..count] {
         if held_of(number, ints, exts, slots, SlotId(x)) > height {
             return true;
         }
-        k += 1;
     }
     false
 }
@@ -50,11 +47,11 @@ pub fn overfull(
     ints: &[u8; 64],
     exts: &[u8; 64],
     slots: usize,
-    buckets: [u32; 1088],
+    buckets: &[u32; 1088],
     height: usize,
 ) -> bool
-    requires { (length number.now ≡ 64) × (slots ≤ 64) × GoodBuckets buckets × (height ≤ 16) }
-    ensures { result ≡ some_above height number.now ints.now exts.now slots (joined (take height (index buckets))) }
+    requires { (slots ≤ 64) × GoodBuckets buckets.now × (height ≤ 16) }
+    ensures { result ≡ some_above height number.now ints.now exts.now slots (joined (take height (index buckets.now))) }
 {
     if buckets::none_below(buckets, height) {
         return false;

@@ -17,13 +17,8 @@ fn groups(page: &mut [u8], pen: Pen, s: Shelf) -> Pen
     requires { GoodShelf s }
 {
     let mut p = pen;
-    let mut place: usize = 0;
-    while place < 4 {
-        if s.made <= place {
-            return p;
-        }
-        p = group_lines::group(page, p, place, desk::shelf::group_at(s, place));
-        place += 1;
+    for place in 0..s.made.min(4) {
+        p = group_lines::group(page, p, place, desk::shelf::at(&s, place));
     }
     p
 }
@@ -32,11 +27,10 @@ fn groups(page: &mut [u8], pen: Pen, s: Shelf) -> Pen
 fn state(page: &mut [u8], pen: Pen, b: Buffer, s: Shelf, t: Tray, lts: &[u64], hashes: &[u8]) -> Pen
     requires { GoodBuffer b × GoodShelf s × GoodTray t × KeyRoom lts.now hashes.now }
 {
-    let set = t.skipped;
     let mut p = buffer_lines::buffer_line(page, pen, b);
     p = buffer_lines::queues(page, p, b);
     p = groups(page, p, s);
-    p = rest_lines::skipped(page, p, set);
+    p = rest_lines::skipped(page, p, t.skipped);
     rest_lines::keys(page, p, lts, hashes, t.keys)
 }
 

@@ -13,41 +13,20 @@ pub fn is_place(owner: u16) -> bool
     owner < 256
 }
 
-// Moves the held among the first n cells to the front in order, frees the cells behind them, and says how many were held. The place written
-// never runs ahead of the place read, so no cell is lost before it is moved.
-pub fn pack_bytes(col: &mut [u8], owner: &[u16], n: usize) -> usize
+// Moves the held among the first n cells to the front in order, makes the cells behind them hold `blank`, and says how many were held. The
+// place written never runs ahead of the place read, so no cell is lost before it is moved.
+pub fn pack<T: Copy>(col: &mut [T], owner: &[u16], n: usize, blank: T) -> usize
     requires { (n ≤ length col.old) × (n ≤ length owner.now) }
-    ensures { Packs (held owner.now) n (packed 0 (held owner.now) n col.old) col.new result }
+    ensures { Packs (held owner.now) n (packed blank (held owner.now) n col.old) col.new result }
 {
-    let mut i: usize = 0;
     let mut w: usize = 0;
-    while i < n {
+    for i in 0..n {
         if is_place(owner[i]) {
-            let x: u8 = col[i];
-            col[w] = x;
+            col[w] = col[i];
             w += 1;
         }
-        i += 1;
     }
-    cells::clear_bytes(col, w, n - w);
-    w
-}
-
-pub fn pack_words(col: &mut [u64], owner: &[u16], n: usize) -> usize
-    requires { (n ≤ length col.old) × (n ≤ length owner.now) }
-    ensures { Packs (held owner.now) n (packed 0 (held owner.now) n col.old) col.new result }
-{
-    let mut i: usize = 0;
-    let mut w: usize = 0;
-    while i < n {
-        if is_place(owner[i]) {
-            let x: u64 = col[i];
-            col[w] = x;
-            w += 1;
-        }
-        i += 1;
-    }
-    cells::clear_words(col, w, n - w);
+    cells::clear(col, w, n - w, blank);
     w
 }
 
@@ -56,16 +35,14 @@ pub fn pack_rows(col: &mut [u8], owner: &[u16], n: usize) -> usize
     requires { (32 * n ≤ length col.old) × (n ≤ length owner.now) }
     ensures { Packs (held owner.now) n (packed_rows (held owner.now) n col.old) col.new result }
 {
-    let mut i: usize = 0;
     let mut w: usize = 0;
-    while i < n {
+    for i in 0..n {
         if is_place(owner[i]) {
             rows::copy_row(col, i, w);
             w += 1;
         }
-        i += 1;
     }
-    cells::clear_bytes(col, 32 * w, 32 * (n - w));
+    cells::clear(col, 32 * w, 32 * (n - w), 0);
     w
 }
 
@@ -74,13 +51,5 @@ pub fn count_owned(owner: &[u16], n: usize, p: u16) -> usize
     requires { n ≤ length owner.now }
     ensures { result ≡ count_i (λ i o. eqb o p) n 0 owner.now }
 {
-    let mut i: usize = 0;
-    let mut count: usize = 0;
-    while i < n {
-        if owner[i] == p {
-            count += 1;
-        }
-        i += 1;
-    }
-    count
+    owner[..n].iter().filter(|&&o| o == p).count()
 }

@@ -3,6 +3,7 @@
 use std::io::{Print, Stdout};
 
 // Where to write, how many bytes wait on the page, and whether a write failed. After that nothing more is written.
+// stays: the rule of fixed memory: the page is lent beside the pen, and how much of it is used is the pen's.
 #[derive(Clone, Copy)]
 pub struct Pen {
     pub to: Stdout,
@@ -20,53 +21,37 @@ pub fn fresh(to: Stdout) -> Pen {
 }
 
 // Writes out what waits.
-pub fn flush(page: &[u8], pen: Pen) -> Pen {
-    let used = pen.used;
-    let failed = pen.failed;
-    if failed {
+pub fn flush(page: &[u8], mut pen: Pen) -> Pen {
+    if pen.failed {
         return pen;
     }
-    if page.len() < used {
+    let Some(waiting) = page.get(..pen.used) else {
         return pen;
-    }
-    let to = pen.to;
-    let written = to.write_all(&page[..used]);
-    Pen {
-        to,
-        used: 0,
-        failed: written.is_err(),
-    }
+    };
+    pen.failed = pen.to.write_all(waiting).is_err();
+    pen.used = 0;
+    pen
 }
 
 // Puts one byte on the page, after a flush if it is full.
-fn byte(page: &mut [u8], pen: Pen, b: u8) -> Pen {
-    let mut now = pen;
-    if page.len() <= now.used {
-        now = flush(page, pen);
+fn byte(page: &mut [u8], mut pen: Pen, b: u8) -> Pen {
+    if page.len() <= pen.used {
+        pen = flush(page, pen);
     }
-    let to = now.to;
-    let at = now.used;
-    let failed = now.failed;
-    if page.len() <= at {
-        return now;
+    let at = pen.used;
+    if at < page.len() {
+        page[at] = b;
+        pen.used = at + 1;
     }
-    page[at] = b;
-    Pen {
-        to,
-        used: at + 1,
-        failed,
-    }
+    pen
 }
 
 // Puts bytes on the page.
-pub fn text(page: &mut [u8], pen: Pen, bytes: &[u8]) -> Pen {
-    let mut now = pen;
-    let mut i: usize = 0;
-    while i < bytes.len() {
-        now = byte(page, now, bytes[i]);
-        i += 1;
+pub fn text(page: &mut [u8], mut pen: Pen, bytes: &[u8]) -> Pen {
+    for &b in bytes {
+        pen = byte(page, pen, b);
     }
-    now
+    pen
 }
 
 // Puts a number on the page, in decimal.
@@ -78,23 +63,19 @@ pub fn number(page: &mut [u8], pen: Pen, n: u64) -> Pen {
 
 // Puts a byte on the page; for a digit that names one of the numbers by its place, that number.
 fn part(page: &mut [u8], pen: Pen, b: u8, numbers: &[u64]) -> Pen {
-    if b < b'0' {
-        return byte(page, pen, b);
+    let named = b
+        .checked_sub(b'0')
+        .and_then(|place| numbers.get(usize::from(place)));
+    match named {
+        Some(&n) => number(page, pen, n),
+        None => byte(page, pen, b),
     }
-    let place = (b - b'0') as usize;
-    if numbers.len() <= place {
-        return byte(page, pen, b);
-    }
-    number(page, pen, numbers[place])
 }
 
 // Puts a form on the page: bytes in which a digit stands for a number, 0 for the first of them. There are ten at the most.
-pub fn form(page: &mut [u8], pen: Pen, bytes: &[u8], numbers: &[u64]) -> Pen {
-    let mut now = pen;
-    let mut i: usize = 0;
-    while i < bytes.len() {
-        now = part(page, now, bytes[i], numbers);
-        i += 1;
+pub fn form(page: &mut [u8], mut pen: Pen, bytes: &[u8], numbers: &[u64]) -> Pen {
+    for &b in bytes {
+        pen = part(page, pen, b, numbers);
     }
-    now
+    pen
 }

@@ -12,7 +12,6 @@ use Rattle.moves.specs.declared.Tally.{Tally}
 use Rattle.moves.specs.Moves.{gone, with_tally, costs}
 use Rattle.moves.specs.Good.{live}
 use Rattle.columns.specs.Lists.{map_i, count_i}
-use Rattle.columns.proofs.Scans.{length_map_i}
 use Rattle.numbers.proofs.Bytes.{by_bool}
 use Rattle.meaning.specs.Meaning.{Columns, columns, columns_of, with_owner}
 use Rattle.meaning.specs.Walks.{Ready, moves_c, held_c, full_c, WalkC, meet_c, seek_c, visit_c}
@@ -88,13 +87,10 @@ pub same_ran : {x y : Columns} → x ≡ y → {numbers : List ℕ} {sl la n : �
 same_ran e {numbers} {sl} {la} {n} h = ap (λ (x : Columns). ran_c x numbers sl la n) e ∙ h
 
 -- ---- the run
-module _ (class cost : List ℕ) (f : Fixed) (r : ℕ) (numbers : List ℕ) (sl la : ℕ) (m : Columns) (g : Ready f class cost m) (room : sl + r ≤ 64) {a : PassedC}
+module _ {class cost : List ℕ} {f : Fixed} (r : ℕ) (numbers : List ℕ) (sl la : ℕ) {m : Columns} (g : Ready f class cost m) (room : sl + r ≤ 64) {a : PassedC}
     (e : a ≡ first_c class cost f r [] numbers sl la 0 m) where
   pub ran_ready : Ready f class cost a.run.now
   ran_ready = rw e (first_keeps class cost f r [] numbers sl la 0 m g tt room).0
-
-  pub ran_long : length a.number ≡ length numbers
-  ran_long = rw e (first_keeps class cost f r [] numbers sl la 0 m g tt room).1
 
   pub ran_both : (xs : List ℕ) {w : WalkC} → w ≡ second_c class cost f a.number sl xs a.run.at a.run.now → Ready f class cost w.now
   ran_both xs d = rw d (second_keeps class cost f a.number sl (omega arith) xs a.run.at a.run.now ran_ready)
@@ -113,10 +109,6 @@ module _ (class cost : List ℕ) (f : Fixed) (r : ℕ) (numbers : List ℕ) (sl 
 
 -- what is held after the sweep, and what was taken, are no more than the rows
 module _ (class : List ℕ) {cost : List ℕ} {f : Fixed} {m : Columns} (g : Ready f class cost m) where
-  pub swept_long : (i : ℕ) {os : List ℕ} → os ≡ sweep_owners class f.rows i f.places m.store.owner → length os ≡ 1024
-  unfolding sweep_owners
-  swept_long i e = ap length e ∙ length_map_i (sweep_cell class i f.places) f.rows 0 m.store.owner ∙ g.good.store.owner_long
-
   left_live : (a i : ℕ) → a ≤ 256 → (n k : ℕ) (os : List ℕ)
       → count_i (λ j o. ltb o a) n k (map_i (sweep_cell class i a) n k os) ≤ count_i live n k os
   unfolding count_i map_i

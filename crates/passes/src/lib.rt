@@ -4,7 +4,7 @@
 // written at the end, the slots are a table of records (crate `slot_rows`).
 #![tactic(auto)]
 
-ghost use Rattle.std.specs.Prelude.{◌≡◌, ◌+◌, ◌≤◌, length, take};
+ghost use Rattle.std.specs.Prelude.{◌≡◌, ◌+◌, ◌≤◌, take};
 ghost use Rattle.meaning.specs.Meaning.{columns};
 ghost use Rattle.meaning.specs.Walks.{Ready};
 ghost use Rattle.meaning.specs.Passes.{ran_c, run_c};
@@ -43,32 +43,26 @@ pub fn run(
     tally: Tally,
 ) -> Ran
     requires ready { Ready fixed plan.now cost.now (columns owner.old taken.old home.old member.old ints.old exts.old mark.old joined.old tally) }
-    requires number_len { (length number.old ≡ 64) × (slots + opens ≤ 64) × (last.0 + opens ≤ 65535) }
-    requires count_bound { (count ≤ 1024) × (length listed.now ≡ 1024) }
+    requires numbers_fit { (slots + opens ≤ 64) × (last.0 + opens ≤ 65535) }
+    requires count_bound { count ≤ 1024 }
     ensures { ran_c (columns owner.new taken.new home.new member.new ints.new exts.new mark.new joined.new result.tally) number.new result.slots result.last.0 result.dropped ≡ run_c plan.now cost.now fixed opens (take count listed.now) number.old slots last.0 (columns owner.old taken.old home.old member.old ints.old exts.old mark.old joined.old tally) }
 {
-    let stood = slot_rows::gather(ints, exts);
+    let mut table = slot_rows::gather(ints, exts);
     let a = openings::first(
-        owner, plan, taken, home, member, mark, cost, joined, number, stood, fixed, opens, slots,
-        last, tally,
+        owner, plan, taken, home, member, mark, cost, joined, number, &mut table, fixed, opens,
+        slots, last, tally,
     );
-    let table = a.table;
-    let opened = a.tally;
     let w = second_pass::second(
-        owner, plan, taken, home, member, mark, cost, joined, number, listed, table, fixed, count,
-        slots, a.at, opened,
+        owner, plan, taken, home, member, mark, cost, joined, number, listed, &mut table, fixed,
+        count, slots, a.at, a.tally,
     );
-    let filled = w.table;
-    let visited = w.tally;
-    slot_rows::spread(filled, ints, exts);
+    slot_rows::spread(&table, ints, exts);
     ending::sweep(owner, plan, fixed.rows, w.at, fixed.places);
-    let e = ending::finish(owner, fixed, visited);
-    let counts = e.tally;
-    let given = a.last;
+    let e = ending::finish(owner, fixed, w.tally);
     Ran {
-        tally: counts,
+        tally: e.tally,
         slots: a.slots,
-        last: given,
+        last: a.last,
         dropped: e.dropped,
     }
 }

@@ -1,7 +1,7 @@
 // The inside of a fill that is taken: its entry makes the columns of numbers, and the passes run on them.
 #![tactic(auto)]
 
-ghost use Rattle.std.specs.Prelude.{◌≡◌, length, get_or};
+ghost use Rattle.std.specs.Prelude.{◌≡◌, get_or};
 ghost use Rattle.entry.specs.Entry.{sayings};
 ghost use Rattle.works.specs.Begin.{accounts as accounts_of, held as held_of, slots as slots_of};
 ghost use Rattle.works.specs.Works.{ran_w};
@@ -37,8 +37,7 @@ pub fn pass(
     height: usize,
     opens: usize,
 ) -> Done
-    requires numbers_len { (length numbers.now ≡ 528) × (length numbers2.now ≡ 16) }
-    requires may_pass { MayPass (accounts_of accounts.now (get_or numbers.now 3 0) accounts2.now home2.now (get_or numbers2.now 2 0)) (held_of owner.now kind.now time.now (get_or numbers.now 2 0)) (slots_of ints2.now exts2.now number2.now buckets2) (sayings set.now held names.now verdicts.now costs.now rows default) filter height opens (get_or numbers2.now 1 0) (get_or numbers2.now 6 0) }
+    requires { MayPass (accounts_of accounts.now (get_or numbers.now 3 0) accounts2.now home2.now (get_or numbers2.now 2 0)) (held_of owner.now kind.now time.now (get_or numbers.now 2 0)) (slots_of ints2.now exts2.now number2.now buckets2) (sayings set.now held names.now verdicts.now costs.now rows default) filter height opens (get_or numbers2.now 1 0) (get_or numbers2.now 6 0) }
     ensures { ran_w result ≡ pass_w (accounts_of accounts.now (get_or numbers.now 3 0) accounts2.now home2.now (get_or numbers2.now 2 0)) (held_of owner.now kind.now time.now (get_or numbers.now 2 0)) (slots_of ints2.now exts2.now number2.now buckets2) (sayings set.now held names.now verdicts.now costs.now rows default) filter height opens (get_or numbers2.now 1 0) (get_or numbers2.now 6 0) }
 {
     let n = numbers[2] as usize;

@@ -20,7 +20,7 @@ fn counts(page: &mut [u8], pen: Pen, c: Counts) -> Pen {
 
 // The minimum, whether it is there, and whether a transaction is open.
 fn marks(page: &mut [u8], pen: Pen, least: u64, marked: bool, open: bool) -> Pen {
-    let numbers = [least, show::bit(marked), show::bit(open)];
+    let numbers = [least, u64::from(marked), u64::from(open)];
     out::form(page, pen, b" min=0 marked=1 tx=2\n", &numbers)
 }
 
@@ -41,15 +41,11 @@ fn queue(page: &mut [u8], pen: Pen, b: Buffer, place: u16) -> Pen
     requires { GoodBuffer b }
 {
     let mut p = pen;
-    let mut i: usize = 0;
-    while i < 1024 {
-        let seen = b.message_at(Place(place), i);
-        if !seen.found {
+    for i in 0..1024 {
+        let Some(m) = b.message_at(Place(place), i) else {
             return p;
-        }
-        let m = seen.message;
+        };
         p = show::spaced(page, p, i, m);
-        i += 1;
     }
     p
 }
@@ -69,15 +65,11 @@ pub fn queues(page: &mut [u8], pen: Pen, b: Buffer) -> Pen
     requires { GoodBuffer b }
 {
     let mut p = pen;
-    let mut place: u16 = 0;
-    while place < 256 {
-        let seen = b.account_at(Place(place));
-        if !seen.found {
+    for place in 0..256 {
+        let Some(account) = b.account_at(Place(place)) else {
             return p;
-        }
-        let account = seen.account;
+        };
         p = queue_line(page, p, b, place, account);
-        place += 1;
     }
     p
 }

@@ -161,13 +161,11 @@ apart f (suc m) i j k o a b l e =
     clash (is_in Real (f i).acc (accounts Real (tab_i m (i + 1) f))) (in_tab (f i).acc f m (i + 1) k (omega arith) (omega arith) (rw z e)) o.0)
     (λ n. let z = eqb-false i j n in apart f m (i + 1) j k o.1 (omega arith) b (omega arith) e)
 
-pub sought : (c : Cols) (x : List ℕ) → Good c → length x ≡ 32 → Sought c.accounts (number c 3) c.numbers x
+pub sought : (c : Cols) (x : List ℕ) → Good c → Sought c.accounts (number c 3) c.numbers x
 unfolding order_of
-sought c x g wide = record {
+sought c x g = record {
   bytes = omega (arith, g.now.places, g.A·high, g.lengths.accounts);
   few = omega (arith, g.now.places, g.A·high);
-  many = g.many;
-  wide = wide;
   index = g.index;
   once = λ i j a b. apart (row_in (live c)) (number c 3) 0 i j g.now.tidy.once (omega arith) a (omega arith);
 }

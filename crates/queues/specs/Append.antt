@@ -1,10 +1,9 @@
 -- What an add does to the columns: its code, and the columns with the message in the next row. Assumes nothing.
-use Rattle.std.specs.Prelude.{Bool, cond, ◌&&◌, List, ℕ, zero, suc, ◌+◌, ◌*◌, min, eqb, leb, ltb, get_or, set}
+use Rattle.std.specs.Prelude.{Bool, cond, ◌&&◌, List, ℕ, zero, suc, ◌+◌, ◌*◌, min, eqb, leb, ltb, get_or, set, Err}
 use Rattle.columns.specs.Laid.{laid_at}
-use Rattle.message.specs.declared.Code.{Code}
-use Rattle.message.specs.declared.Code.TheVariants.{Done, Special, WrongKind, Full, Crowded}
+use Rattle.message.specs.declared.Refusal.TheVariants.{Special, WrongKind, Full, Crowded}
 use Rattle.message.specs.declared.Message.{Message}
-use Rattle.message.specs.Answers.{number as number_of}
+use Rattle.message.specs.Answers.{Code, Done, number as number_of}
 use Rattle.message.specs.Records.{account_of}
 use Rattle.records.specs.Records.{form_byte}
 use Rattle.queues.specs.Cols.{Cols, number}
@@ -22,10 +21,10 @@ left code c = record { code = code; cols = c }
 -- codes 2 to 5 in their order; `seat` is the place of the account, or the number of places if it has none
 unfoldable pub add_code_c : Message → (seat : ℕ) → List ℕ → Code
 add_code_c m seat ns =
-    cond m.special Special
-    (cond (ltb 1 m.kind) WrongKind
-    (cond (leb (get_or ns 0 0) (get_or ns 2 0)) Full
-    (cond (leb (get_or ns 3 0) seat && leb (get_or ns 1 0) (get_or ns 3 0)) Crowded Done)))
+    cond m.special (Err Special)
+    (cond (ltb 1 m.kind) (Err WrongKind)
+    (cond (leb (get_or ns 0 0) (get_or ns 2 0)) (Err Full)
+    (cond (leb (get_or ns 3 0) seat && leb (get_or ns 1 0) (get_or ns 3 0)) (Err Crowded) Done)))
 
 -- n, and one more where the test holds
 abbrev pub more : Bool → ℕ → ℕ

@@ -1,11 +1,11 @@
 -- Columns packed: messages that are gone leave no row, accounts that are gone no place. `seats` says of each place which one it becomes, or
 -- that it goes, by a mark that is no place. A removal packs so, and so does the end of a fill. Assumes nothing.
-use Rattle.std.specs.Prelude.{◌≡◌, Bool, cond, not, ◌&&◌, List, ℕ, ◌+◌, ◌-◌, ◌/◌, eqb, ltb, leb, get_or, set, length, replicate}
+use Rattle.std.specs.Prelude.{◌≡◌, Bool, cond, not, ◌&&◌, List, ℕ, ◌+◌, ◌-◌, ◌/◌, eqb, ltb, leb, get_or, set, length, replicate, Err}
 use Rattle.columns.specs.Lists.{map_i, count_i, rank}
 use Rattle.columns.specs.Laid.{is_place, held, packed}
 use Rattle.columns.specs.Rows.{row_at, rows_of, packed_rows, index_of}
-use Rattle.message.specs.declared.Code.{Code}
-use Rattle.message.specs.declared.Code.TheVariants.{Done, HoldsExternal}
+use Rattle.message.specs.Answers.{Code, Done}
+use Rattle.message.specs.declared.Refusal.TheVariants.{HoldsExternal}
 use Rattle.queues.specs.Cols.{Cols, number, with_numbers}
 use Rattle.queues.specs.Indexed.{indexed_c}
 use Rattle.queues.specs.Append.{Left, left}
@@ -81,4 +81,4 @@ unfoldable pub remove_c : List ℕ → Cols → Left
 remove_c names c =
     cond (eqb (lost_externals (seats_of names c) c.kind (number c 2) c.owner) 0)
     (left Done (indexed_c (stay_c names c) (removed_c (seats_of names c) (stay_c names c) c)))
-    (left HoldsExternal c)
+    (left (Err HoldsExternal) c)

@@ -1,9 +1,9 @@
 -- A transaction on the columns: begin copies what is held into the backup room, rollback copies it back, commit forgets it. "Rollback gives
 -- back every queue, the order, the counts and the minimum as at begin." Assumes nothing.
-use Rattle.std.specs.Prelude.{cond, List, ℕ, ◌*◌, eqb, take, drop, set, replicate}
+use Rattle.std.specs.Prelude.{cond, List, ℕ, ◌*◌, eqb, take, drop, set, replicate, Err}
 use Rattle.columns.specs.Laid.{laid_at}
-use Rattle.message.specs.declared.Code.{Code}
-use Rattle.message.specs.declared.Code.TheVariants.{Done, NoTransaction, InTransaction}
+use Rattle.message.specs.Answers.{Code, Done}
+use Rattle.message.specs.declared.Refusal.TheVariants.{NoTransaction, InTransaction}
 use Rattle.queues.specs.Cols.{Cols, number, with_numbers}
 use Rattle.queues.specs.Indexed.{indexed_c}
 use Rattle.queues.specs.Append.{Left, left}
@@ -56,10 +56,10 @@ rolled_c c =
 
 -- "begin with one open" 7; "commit or rollback without a transaction" 6
 unfoldable pub begin_c : Cols → Left
-begin_c c = cond (eqb (number c 8) 0) (left Done (begun_c c)) (left InTransaction c)
+begin_c c = cond (eqb (number c 8) 0) (left Done (begun_c c)) (left (Err InTransaction) c)
 
 unfoldable pub commit_c : Cols → Left
-commit_c c = cond (eqb (number c 8) 0) (left NoTransaction c) (left Done (committed_c c))
+commit_c c = cond (eqb (number c 8) 0) (left (Err NoTransaction) c) (left Done (committed_c c))
 
 unfoldable pub rollback_c : Cols → Left
-rollback_c c = cond (eqb (number c 8) 0) (left NoTransaction c) (left Done (indexed_c (number c 10) (rolled_c c)))
+rollback_c c = cond (eqb (number c 8) 0) (left (Err NoTransaction) c) (left Done (indexed_c (number c 10) (rolled_c c)))

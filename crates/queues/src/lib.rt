@@ -6,7 +6,7 @@ ghost use Rattle.queues.specs.Look.{seat_of, owned_by, row_of};
 
 // How many of the first n messages are those of the account x, one of the first a.
 pub fn queued(owner: &[u16], n: usize, accounts: &[u8], a: usize, x: &[u8; 32]) -> usize
-    requires { (n ≤ length owner.now) × (32 * a ≤ length accounts.now) × (a ≤ 256) × (length x.now ≡ 32) }
+    requires { (n ≤ length owner.now) × (32 * a ≤ length accounts.now) × (a ≤ 256) }
     ensures { result ≡ owned_by owner.now n (seat_of accounts.now a x.now) }
 {
     let seat = rows::find_row(accounts, a, x);
@@ -19,15 +19,13 @@ pub fn row_of(owner: &[u16], n: usize, p: u16, k: usize) -> usize
     ensures { result ≡ row_of owner.now n p k }
 {
     let mut behind = k;
-    let mut i: usize = 0;
-    while i < n {
+    for i in 0..n {
         if owner[i] == p {
             if behind == 0 {
                 return i;
             }
             behind -= 1;
         }
-        i += 1;
     }
-    i
+    n
 }

@@ -17,6 +17,7 @@ pub fn full<R: Read>(from: &mut R, row: &mut [u8]) -> io::Result<usize>
     ensures ended { IfOk result (λ n. n < length row.new → IsAtEnd (R.remaining from.new)) }
 {
     let mut done: usize = 0;
+    // stays: no plainer as a `for`: a turn goes on by as many bytes as its read gave
     while done < row.len() {
         let n = from.read(&mut row[done..])?;
         if n == 0 {

@@ -7,6 +7,7 @@ ghost use Rattle.records.specs.Records.{form_byte, form_of, message_at, HasRow};
 use message::{Form, Message};
 
 // The byte that stands for a form.
+// stays: no plainer as a `From`: that would stand in crate `message`, where both types can be named, away from the columns that hold the byte.
 pub fn form_byte(f: Form) -> u8
     ensures { result ≡ form_byte f }
 {

@@ -4,7 +4,7 @@
 ghost use Rattle.std.specs.Prelude.{◌≡◌};
 ghost use Rattle.refusals.specs.Refusals.{MayDecide, code_c};
 
-use message::Code;
+use message::{Code, Refusal};
 
 // The code of a fill with `keys` key rows and `rows` skip rows, the set holding `held` accounts.
 pub fn decide(
@@ -21,24 +21,24 @@ pub fn decide(
     buckets: [u32; 1088],
     numbers2: &[u64; 16],
 ) -> Code
-    requires { MayDecide rows verdicts.now held numbers.now number.now ints.now exts.now buckets numbers2.now }
+    requires { MayDecide rows verdicts.now held buckets numbers2.now }
     ensures { result ≡ code_c asked height keys rows verdicts.now held numbers.now number.now ints.now exts.now buckets numbers2.now }
 {
     if limits::too_large(asked, height, numbers2[0]) {
-        return Code::TooLarge;
+        return Err(Refusal::TooLarge);
     }
     if limits::few_keys(keys, numbers) {
-        return Code::FewKeys;
+        return Err(Refusal::FewKeys);
     }
     if limits::many_skips(rows, verdicts, held) {
-        return Code::ManySkips;
+        return Err(Refusal::ManySkips);
     }
     let slots = numbers2[1] as usize;
     if limits::used_up(asked as usize, slots, numbers2[6]) {
-        return Code::NumbersUsedUp;
+        return Err(Refusal::NumbersUsedUp);
     }
-    if over_height::overfull(number, ints, exts, slots, buckets, height as usize) {
-        return Code::Overfull;
+    if over_height::overfull(number, ints, exts, slots, &buckets, height as usize) {
+        return Err(Refusal::Overfull);
     }
-    Code::Done
+    Ok(())
 }

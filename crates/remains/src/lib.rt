@@ -9,12 +9,12 @@ ghost use Rattle.queues.specs.Compact.{left_numbers};
 fn less(a: u64, b: u64) -> u64
     ensures { result ≡ a - b }
 {
-    if b <= a { a - b } else { 0 }
+    a.saturating_sub(b)
 }
 
 // The numbers with r messages and b accounts left, and the index of these; all that went were internals.
 pub fn count_out(r: usize, b: usize, accounts: &[u8; 16384], numbers: &mut [u64; 528])
-    requires { (32 * b ≤ length accounts.now) × (b ≤ 256) × (length numbers.old ≡ 528) }
+    requires { (32 * b ≤ length accounts.now) × (b ≤ 256) }
     ensures { numbers.new ≡ indexed_by b accounts.now (left_numbers r b numbers.old) }
 {
     let went = less(numbers[2], r as u64);

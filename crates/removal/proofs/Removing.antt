@@ -7,8 +7,10 @@ use native.Mathlib.Nat.{div-add-mod'}
 use native.Mathlib.Omega.{arith}
 use lib.ListN.{replicate}
 use borrow.Author.Tests.{eq-eqb, ne_eqb}
+use Rattle.std.specs.Prelude.{Err}
 use Rattle.index.specs.Names.{indexed_by}
-use Rattle.message.specs.declared.Code.TheVariants.{Done, HoldsExternal}
+use Rattle.message.specs.Answers.{Done}
+use Rattle.message.specs.declared.Refusal.TheVariants.{HoldsExternal}
 use Rattle.queues.specs.Cols.{Cols, number, with_numbers}
 use Rattle.queues.specs.Indexed.{indexed_c}
 use Rattle.queues.specs.Good.{Long, Good}
@@ -44,7 +46,7 @@ module _ (names : List ℕ) (c : Cols) (seats : List ℕ) (stay lost : ℕ) (sea
   loses : lost ≡ lost_externals (seats_of names c) c.kind (number c 2) c.owner
   loses = count ∙ ap (λ (s : List ℕ). lost_externals s c.kind (number c 2) c.owner) of_names
 
-  pub refused : (lost ≡ 0 → ⊥) → left HoldsExternal c ≡ remove_c names c
+  pub refused : (lost ≡ 0 → ⊥) → left (Err HoldsExternal) c ≡ remove_c names c
   unfolding remove_c
   refused h = rw (← loses, ne_eqb lost 0 h)
 

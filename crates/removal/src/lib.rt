@@ -7,7 +7,7 @@ ghost use Rattle.queues.specs.Good.{Good};
 ghost use Rattle.queues.specs.Append.{left};
 ghost use Rattle.queues.specs.Compact.{remove_c};
 
-use message::Code;
+use message::{Code, Refusal};
 
 // Removes the queues of the named accounts, 32 bytes a name; refuses if one of them holds an external. Names without a queue, names given
 // twice and bytes behind the last whole name do nothing.
@@ -31,11 +31,11 @@ pub fn remove(
     let mut seats = [65535u16; 256];
     let stay = leaving::seat_unnamed(accounts, a, names, k, &mut seats);
     if leaving::lost_externals(owner, kind, n, &seats) != 0 {
-        return Code::HoldsExternal;
+        return Err(Refusal::HoldsExternal);
     }
     let r = compacting::compact(
         &seats, n, a, owner, kind, form, time, address, hash, accounts,
     );
     remains::count_out(r, stay, accounts, numbers);
-    Code::Done
+    Ok(())
 }

@@ -7,31 +7,30 @@ ghost use Rattle.replay.specs.Runs.{Ready};
 
 use desk::shelf::Shelf;
 use desk::tray::Tray;
-use intake::orders::{Course, Task};
+use intake::orders::Course;
 use lintelsong::Buffer;
-use scenario::commands::Command;
+use scenario::commands::{Command, Order};
 use scenario::replies::Reply;
 use std::io::{Stdin, Stdout};
 
-// A command, done so many times, and its answer. The line was echoed, so that its room is free for a text.
+// An order done, and its answer. The line was echoed, so that its room is free for a text.
 fn obeyed(
-    command: Command,
-    times: u64,
+    order: Order,
     b: &mut Buffer,
     t: &mut Tray,
     s: &mut Shelf,
     line: &mut [u8],
     numbers: &[u64],
-    n: usize,
     lts: &mut [u64],
     hashes: &mut [u8],
 ) -> Reply
     requires { Ready b.old s.old t.old lts.old hashes.old }
     ensures { Ready b.new s.new t.new lts.new hashes.new }
 {
-    match command {
+    let times = order.times;
+    match order.command {
         Command::Buffer(o) => {
-            let d = desk::buffer::repeat(*b, times, o, numbers, n);
+            let d = desk::buffer::repeat(*b, times, o, numbers, order.numbers);
             *b = d.buffer;
             d.reply
         }
@@ -61,14 +60,11 @@ fn lines(
 ) -> Course
     requires { Ready b s t lts.old hashes.old × (c.reader.held ≤ 0) }
 {
+    // stays: the new form is no plainer: no index is counted; the course says whether there is more to read
     while intake::orders::goes_on(c) {
-        let next = intake::orders::take(c, s.made, chunk, line, numbers, page);
-        c = next.course;
-        let task = next.task;
-        if let Task::Do(times, n, command) = task {
-            let reply = obeyed(
-                command, times, &mut b, &mut t, &mut s, line, numbers, n, lts, hashes,
-            );
+        let made = s.made;
+        if let Some(order) = intake::orders::take(&mut c, made, chunk, line, numbers, page) {
+            let reply = obeyed(order, &mut b, &mut t, &mut s, line, numbers, lts, hashes);
             let pen = overview::state::told(page, c.pen, reply, line, b, s, t, lts, hashes);
             c = intake::orders::with_pen(c, pen);
         }

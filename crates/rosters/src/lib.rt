@@ -1,8 +1,9 @@
 // The roster of the slots: each slot's own accounts as a chain of members, so that a visit to a slot looks at no account of another. A member is
 // a position in the column `member`; its home is the position of its slot.
+// stays: a roster is links by index in one array of numbers and no lists of members: the memory of a fill is fixed, and `Listed` speaks of the cells.
 #![tactic(auto)]
 
-ghost use Rattle.std.specs.Prelude.{◌≡◌, ℕ, ◌<◌, ◌≤◌, length, get_or};
+ghost use Rattle.std.specs.Prelude.{◌≡◌, ℕ, ◌<◌, ◌≤◌, get_or};
 ghost use Rattle.rosters.specs.Rosters.{first_in, next_in, home_in, behind, appended, Listed};
 
 const MEMBERS: usize = 1280;
@@ -16,7 +17,7 @@ pub fn first_in(roster: &[u16; 1408], slot: usize) -> usize
     requires { slot < 64 }
     ensures { result ≡ first_in roster.now slot }
 {
-    numbers::wide16(roster[FIRSTS + slot])
+    usize::from(roster[FIRSTS + slot])
 }
 
 // The member behind a member in its slot.
@@ -24,15 +25,16 @@ pub fn next_in(roster: &[u16; 1408], g: usize) -> usize
     requires { g < 1280 }
     ensures { result ≡ next_in roster.now g }
 {
-    numbers::wide16(roster[g])
+    usize::from(roster[g])
 }
 
 // The cell that names a newcomer of a slot: the next of its last member, or its first where it has none.
+#[tactic(auto, unfolding(crate::specs::Rosters::behind))]
 fn behind_last(roster: &[u16; 1408], slot: usize) -> usize
     requires { slot < 64 }
     ensures { result ≡ behind roster.now slot }
 {
-    let last = numbers::wide16(roster[LASTS + slot]);
+    let last = usize::from(roster[LASTS + slot]);
     if last < MEMBERS { last } else { FIRSTS + slot }
 }
 
@@ -54,16 +56,14 @@ pub fn enlist(
     from: usize,
     to: usize,
 )
-    requires from_le_to { (from ≤ to) × (to ≤ 1280) × (length home.now ≡ 1280) × (length member.now ≡ 1280) }
+    requires from_le_to { (from ≤ to) × (to ≤ 1280) }
     requires by_index { (g : ℕ) → g < to → get_or member.now g 0 < 1280 }
     requires by_index_2 { (g : ℕ) → g < to → home_in home.now member.now g < 64 }
     requires listed { Listed roster.old from home.now member.now }
     ensures { Listed roster.new to home.now member.now }
 {
-    let mut g = from;
-    while g < to {
-        let party = numbers::wide16(member[g]);
-        append(roster, numbers::wide8(home[party]), g);
-        g += 1;
+    for g in from..to {
+        let party = usize::from(member[g]);
+        append(roster, usize::from(home[party]), g);
     }
 }

@@ -18,8 +18,8 @@ pub fn join_accounts(
     requires { AccountRoom held n slots home2.now (length accounts.old) (length home.old) (length accounts2.now) }
     ensures { AccountsJoined held n slots accounts2.now home2.now accounts.old home.old accounts.new home.new }
 {
-    laying::lay_bytes(accounts, 32 * held, accounts2, 32 * n);
-    laying::raise_bytes(home, held, home2, n, slots);
+    laying::lay(accounts, 32 * held, accounts2, 32 * n);
+    laying::raise(home, held, home2, n, slots);
 }
 
 // The right's n messages behind the left's, each with its owner behind the left's accounts.
@@ -39,10 +39,10 @@ pub fn join_messages(
     requires { MessageRoom held n accounts owner2.now (length owner.old) (length kind.old) (length form.old) (length time.old) (length kind2.now) (length form2.now) (length time2.now) }
     ensures { MessagesJoined held n accounts owner2.now kind2.now form2.now time2.now owner.old kind.old form.old time.old owner.new kind.new form.new time.new }
 {
-    laying::raise_shorts(owner, held, owner2, n, accounts);
-    laying::lay_bytes(kind, held, kind2, n);
-    laying::lay_bytes(form, held, form2, n);
-    laying::lay_words(time, held, time2, n);
+    laying::raise(owner, held, owner2, n, accounts);
+    laying::lay(kind, held, kind2, n);
+    laying::lay(form, held, form2, n);
+    laying::lay(time, held, time2, n);
 }
 
 // The records of the right's n messages behind the left's.
@@ -57,6 +57,6 @@ pub fn join_records(
     requires { RecordRoom held n (length address.old) (length hash.old) (length address2.now) (length hash2.now) }
     ensures { RecordsJoined held n address2.now hash2.now address.old hash.old address.new hash.new }
 {
-    laying::lay_bytes(address, 32 * held, address2, 32 * n);
-    laying::lay_bytes(hash, 32 * held, hash2, 32 * n);
+    laying::lay(address, 32 * held, address2, 32 * n);
+    laying::lay(hash, 32 * held, hash2, 32 * n);
 }

@@ -7,14 +7,13 @@ ghost use Rattle.columns.specs.Laid.{laid_at};
 ghost use Rattle.columns.specs.Rows.{row_at, rows_of, index_of};
 
 // Whether row i is x, looked at from the last byte: names that are small numbers differ there.
+// stays: a loop and no `==`, which begins with the first byte: no plainer, for the order of the look would have to be said some other way.
 pub fn same_row(col: &[u8], i: usize, x: &[u8; 32]) -> bool
-    requires { (32 * i + 32 ≤ length col.now) × (length x.now ≡ 32) }
+    requires { 32 * i + 32 ≤ length col.now }
     ensures { result ≡ eq_l (row_at col.now i) x.now }
 {
     let base = 32 * i;
-    let mut j: usize = 32;
-    while 0 < j {
-        j -= 1;
+    for j in (0..32).rev() {
         if col[base + j] != x[j] {
             return false;
         }
@@ -29,25 +28,17 @@ pub fn get_row(col: &[u8], i: usize) -> [u8; 32]
 {
     let base = 32 * i;
     let mut x = [0u8; 32];
-    let mut k: usize = 0;
-    while k < 32 {
-        x[k] = col[base + k];
-        k += 1;
-    }
+    x.copy_from_slice(&col[base..base + 32]);
     x
 }
 
 // Writes x to row i.
 pub fn put_row(col: &mut [u8], i: usize, x: &[u8; 32])
-    requires { (32 * i + 32 ≤ length col.old) × (length x.now ≡ 32) }
+    requires { 32 * i + 32 ≤ length col.old }
     ensures { col.new ≡ laid_at (32 * i) x.now col.old }
 {
     let base = 32 * i;
-    let mut k: usize = 0;
-    while k < 32 {
-        col[base + k] = x[k];
-        k += 1;
-    }
+    col[base..base + 32].copy_from_slice(x);
 }
 
 // Copies row `from` to row `to`; the two may be one.
@@ -55,20 +46,18 @@ pub fn copy_row(col: &mut [u8], from: usize, to: usize)
     requires { (32 * from + 32 ≤ length col.old) × (32 * to + 32 ≤ length col.old) }
     ensures { col.new ≡ laid_at (32 * to) (row_at col.old from) col.old }
 {
-    cells::copy_bytes(col, 32 * from, 32 * to, 32);
+    cells::copy(col, 32 * from, 32 * to, 32);
 }
 
 // The index of the first of n rows that is x, n if none is.
 pub fn find_row(col: &[u8], n: usize, x: &[u8; 32]) -> usize
-    requires { (32 * n ≤ length col.now) × (length x.now ≡ 32) }
+    requires { 32 * n ≤ length col.now }
     ensures { result ≡ index_of x.now (rows_of n col.now) }
 {
-    let mut i: usize = 0;
-    while i < n {
+    for i in 0..n {
         if same_row(col, i, x) {
             return i;
         }
-        i += 1;
     }
-    i
+    n
 }

@@ -1,1 +1,1 @@
--- The proofs of the functions alone.
+-- No law of its own.

@@ -1,6 +1,6 @@
 // A line read as a command. Every word after a command's name is a number; the numbers are put on a list that is lent.
 use crate::verbs;
-use words::decimal::Number;
+use crate::verbs::Verb;
 use words::{cut, decimal};
 
 // A message as a scenario names it.
@@ -80,252 +80,171 @@ pub enum Command {
     Look(Look),
 }
 
-// What a verb and its numbers say: a command, or none.
+// A command to be done so many times, with how many numbers on the list.
+// stays: the rule of fixed memory: the numbers lie on a list that is lent, so that an order is small and can be copied.
 #[derive(Clone, Copy)]
-enum Said {
-    Is(Command),
-    Wrong,
+pub struct Order {
+    pub times: u64,
+    pub numbers: usize,
+    pub command: Command,
 }
 
-// A line: nothing to do, no command, or a command so many times, with how many numbers on the list.
-#[derive(Clone, Copy)]
-pub enum Line {
-    Silent,
-    Bad,
-    Order(u64, usize, Command),
-}
+// A line that is no command.
+#[derive(Clone, Copy, Debug, PartialEq, Eq)]
+pub struct BadLine;
 
-// How many words were read as numbers, or that one of them is none.
-#[derive(Clone, Copy)]
-enum Counted {
-    All(usize),
-    Wrong,
-}
-
-// Reads the words from `at` on as numbers. There is room for all that a line of 65,536 bytes can hold.
-fn numbers_from(line: &[u8], at: usize, numbers: &mut [u64]) -> Counted {
+// Reads the words from `at` on as numbers, and says how many there are; none where a word is no number. There is room for all that a line of
+// 65,536 bytes can hold.
+fn numbers_from(line: &[u8], at: usize, numbers: &mut [u64]) -> Option<usize> {
     let mut here = at;
-    let mut n: usize = 0;
-    while n < numbers.len() {
+    for (n, place) in numbers.iter_mut().enumerate() {
         let w = cut::word(line, here);
-        let from = w.from;
-        let to = w.to;
-        if from == to {
-            return Counted::All(n);
+        if w.from == w.to {
+            return Some(n);
         }
-        let Number::Value(v) = decimal::read(&line[from..to]) else {
-            return Counted::Wrong;
-        };
-        numbers[n] = v;
-        here = to;
-        n += 1;
+        *place = decimal::read(&line[w.from..w.to])?;
+        here = w.to;
     }
-    Counted::Wrong
+    None
 }
 
 // Number i of the list; 0 past its end.
 fn at(numbers: &[u64], i: usize) -> u64 {
-    if i < numbers.len() { numbers[i] } else { 0 }
+    numbers.get(i).copied().unwrap_or(0)
 }
 
-// The add of a record: the kind is a byte, and the two flags are 0 or 1.
-fn add(numbers: &[u64]) -> Said {
-    let kind = at(numbers, 0);
-    let special = at(numbers, 1);
-    let other = at(numbers, 2);
-    if 255 < kind {
-        return Said::Wrong;
+// A number that is 0 or 1.
+fn flag(n: u64) -> Option<bool> {
+    match n {
+        0 => Some(false),
+        1 => Some(true),
+        _ => None,
     }
-    if 1 < special {
-        return Said::Wrong;
-    }
-    if 1 < other {
-        return Said::Wrong;
-    }
-    Said::Is(Command::Buffer(BufferOrder::Add(Record {
-        kind: kind as u8,
-        special: special == 1,
-        other: other == 1,
+}
+
+// A number below a limit, as a place or a count.
+fn below(limit: usize, n: u64) -> Option<usize> {
+    let count = usize::try_from(n).ok()?;
+    (count < limit).then_some(count)
+}
+
+// The record of an add: the kind is a byte.
+fn message(numbers: &[u64]) -> Option<Record> {
+    Some(Record {
+        kind: u8::try_from(at(numbers, 0)).ok()?,
+        special: flag(at(numbers, 1))?,
+        other: flag(at(numbers, 2))?,
         account: at(numbers, 3),
         time: at(numbers, 4),
         hash: at(numbers, 5),
-    })))
+    })
 }
 
-// An order to the buffer.
-fn buffer_order(verb: usize, numbers: &[u64]) -> Said {
-    let order = match verb {
-        verbs::ADD => return add(numbers),
-        verbs::REMOVE => BufferOrder::Remove,
-        verbs::BEGIN => BufferOrder::Begin,
-        verbs::COMMIT => BufferOrder::Commit,
-        verbs::ROLLBACK => BufferOrder::Rollback,
-        _ => BufferOrder::SetUp(at(numbers, 0), at(numbers, 1)),
-    };
-    Said::Is(Command::Buffer(order))
-}
-
-// One more skip row: its verdict is 0 or 1.
-fn row(numbers: &[u64]) -> Said {
-    let verdict = at(numbers, 1);
-    if 1 < verdict {
-        return Said::Wrong;
-    }
-    Said::Is(Command::Tray(TrayOrder::Row(SkipRow {
+// One more skip row.
+fn skip_row(numbers: &[u64]) -> Option<SkipRow> {
+    Some(SkipRow {
         account: at(numbers, 0),
-        verdict: verdict as u8,
+        verdict: u8::from(flag(at(numbers, 1))?),
         cost: at(numbers, 2),
-    })))
+    })
 }
 
-// A key list of at most 2,048 rows.
-fn keys(rows: u64) -> Said {
-    if 2048 < rows {
-        return Said::Wrong;
-    }
-    Said::Is(Command::Tray(TrayOrder::Keys(rows as usize)))
+// The join of two of the `made` groups that are there, not of one with itself.
+fn join(numbers: &[u64], made: usize) -> Option<ShelfOrder> {
+    let left = below(made, at(numbers, 0))?;
+    let right = below(made, at(numbers, 1))?;
+    (left != right).then_some(ShelfOrder::Join(left, right))
 }
 
-// An order to what is laid ready.
-fn tray_order(verb: usize, numbers: &[u64]) -> Said {
-    let order = match verb {
-        verbs::ROW => return row(numbers),
-        verbs::KEYS => return keys(at(numbers, 0)),
-        verbs::COST => TrayOrder::Cost(at(numbers, 0)),
-        verbs::SET => TrayOrder::Set,
-        verbs::QUIET => TrayOrder::Quiet,
-        verbs::LOUD => TrayOrder::Loud,
-        _ => TrayOrder::Rows,
-    };
-    Said::Is(Command::Tray(order))
-}
-
-// The set-up of one of the four groups.
-fn group(place: u64, slots: u64) -> Said {
-    if 3 < place {
-        return Said::Wrong;
-    }
-    Said::Is(Command::Shelf(ShelfOrder::SetUp(place as usize, slots)))
-}
-
-// The join of two groups that are there, not of one with itself.
-fn join(left: u64, right: u64, made: u64) -> Said {
-    if made <= left {
-        return Said::Wrong;
-    }
-    if made <= right {
-        return Said::Wrong;
-    }
-    if left == right {
-        return Said::Wrong;
-    }
-    Said::Is(Command::Shelf(ShelfOrder::Join(left as usize, right as usize)))
-}
-
-// The fill of a group that is there: the filter is 0 or 1.
-fn fill(numbers: &[u64], made: u64) -> Said {
-    let place = at(numbers, 0);
-    let filter = at(numbers, 3);
-    if made <= place {
-        return Said::Wrong;
-    }
-    if 1 < filter {
-        return Said::Wrong;
-    }
-    Said::Is(Command::Fill(Ask {
-        group: place as usize,
+// The fill of one of the `made` groups that are there.
+fn fill(numbers: &[u64], made: usize) -> Option<Ask> {
+    Some(Ask {
+        group: below(made, at(numbers, 0))?,
         slots: at(numbers, 1),
         height: at(numbers, 2),
-        filter: filter == 1,
+        filter: flag(at(numbers, 3))?,
         threshold: at(numbers, 4),
-    }))
+    })
 }
 
-// A look at a group that is there.
-fn look_at_group(verb: usize, numbers: &[u64], made: u64) -> Said {
-    let place = at(numbers, 0);
-    if made <= place {
-        return Said::Wrong;
-    }
-    if verb == verbs::DISPLAY {
-        return Said::Is(Command::Look(Look::Display(place as usize)));
-    }
-    Said::Is(Command::Look(Look::IsFilled(place as usize, at(numbers, 1), at(numbers, 2))))
-}
-
-// A command to groups, of which `made` are there, or a look.
-fn group_command(verb: usize, numbers: &[u64], made: u64) -> Said {
-    match verb {
-        verbs::GROUP => group(at(numbers, 0), at(numbers, 1)),
-        verbs::JOIN => join(at(numbers, 0), at(numbers, 1), made),
-        verbs::FILL => fill(numbers, made),
-        verbs::FULL => Said::Is(Command::Look(Look::Full(at(numbers, 0)))),
-        _ => look_at_group(verb, numbers, made),
-    }
-}
-
-// What a verb says with as many numbers as it takes.
-fn command_of(verb: usize, numbers: &[u64], made: usize) -> Said {
-    if verb < verbs::ROWS {
-        return buffer_order(verb, numbers);
-    }
-    if verb < verbs::GROUP {
-        return tray_order(verb, numbers);
-    }
-    if verb < verbs::UNKNOWN {
-        return group_command(verb, numbers, made as u64);
-    }
-    Said::Wrong
+// What a verb says with as many numbers as it takes, where `made` groups are there. A set-up is of one of four groups, and a key list has
+// at most 2,048 rows.
+fn command_of(verb: Verb, numbers: &[u64], made: usize) -> Option<Command> {
+    let first = at(numbers, 0);
+    let second = at(numbers, 1);
+    Some(match verb {
+        Verb::Buffer => Command::Buffer(BufferOrder::SetUp(first, second)),
+        Verb::Add => Command::Buffer(BufferOrder::Add(message(numbers)?)),
+        Verb::Remove => Command::Buffer(BufferOrder::Remove),
+        Verb::Begin => Command::Buffer(BufferOrder::Begin),
+        Verb::Commit => Command::Buffer(BufferOrder::Commit),
+        Verb::Rollback => Command::Buffer(BufferOrder::Rollback),
+        Verb::Rows => Command::Tray(TrayOrder::Rows),
+        Verb::Row => Command::Tray(TrayOrder::Row(skip_row(numbers)?)),
+        Verb::Cost => Command::Tray(TrayOrder::Cost(first)),
+        Verb::Set => Command::Tray(TrayOrder::Set),
+        Verb::Keys => Command::Tray(TrayOrder::Keys(below(2049, first)?)),
+        Verb::Quiet => Command::Tray(TrayOrder::Quiet),
+        Verb::Loud => Command::Tray(TrayOrder::Loud),
+        Verb::Group => Command::Shelf(ShelfOrder::SetUp(below(4, first)?, second)),
+        Verb::Join => Command::Shelf(join(numbers, made)?),
+        Verb::Fill => Command::Fill(fill(numbers, made)?),
+        Verb::IsFilled => Command::Look(Look::IsFilled(
+            below(made, first)?,
+            second,
+            at(numbers, 2),
+        )),
+        Verb::Full => Command::Look(Look::Full(first)),
+        Verb::Display => Command::Look(Look::Display(below(made, first)?)),
+    })
 }
 
 // The command whose name stands first from `here` on, so many times. There are `made` groups.
-fn order(times: u64, line: &[u8], here: usize, made: usize, numbers: &mut [u64]) -> Line {
+fn ordered(
+    times: u64,
+    line: &[u8],
+    here: usize,
+    made: usize,
+    numbers: &mut [u64],
+) -> Option<Order> {
     let w = cut::word(line, here);
-    let from = w.from;
-    let to = w.to;
-    let verb = verbs::verb_of(&line[from..to]);
-    let Counted::All(n) = numbers_from(line, to, numbers) else {
-        return Line::Bad;
-    };
+    let verb = verbs::verb_of(&line[w.from..w.to])?;
+    let n = numbers_from(line, w.to, numbers)?;
     if !verbs::takes(verb, n) {
-        return Line::Bad;
+        return None;
     }
-    let Said::Is(c) = command_of(verb, numbers, made) else {
-        return Line::Bad;
-    };
-    Line::Order(times, n, c)
+    let command = command_of(verb, numbers, made)?;
+    Some(Order {
+        times,
+        numbers: n,
+        command,
+    })
 }
 
 // A command that is repeated: how often, from 1 on, stands first from `here` on.
-fn repeated(line: &[u8], here: usize, made: usize, numbers: &mut [u64]) -> Line {
+fn repeated(line: &[u8], here: usize, made: usize, numbers: &mut [u64]) -> Option<Order> {
     let w = cut::word(line, here);
-    let from = w.from;
-    let to = w.to;
-    let Number::Value(times) = decimal::read(&line[from..to]) else {
-        return Line::Bad;
-    };
+    let times = decimal::read(&line[w.from..w.to])?;
     if times == 0 {
-        return Line::Bad;
+        return None;
     }
-    order(times, line, to, made, numbers)
+    ordered(times, line, w.to, made, numbers)
 }
 
-// Reads a line, where `made` groups are set up. One longer than 65,536 bytes is no command, whatever it begins with.
-pub fn read(line: &[u8], made: usize, numbers: &mut [u64]) -> Line {
+// Reads a line, where `made` groups are set up: the order that it is, none where it asks for nothing. One longer than 65,536 bytes is no
+// command, whatever it begins with.
+pub fn read(line: &[u8], made: usize, numbers: &mut [u64]) -> Result<Option<Order>, BadLine> {
     if 65536 < line.len() {
-        return Line::Bad;
+        return Err(BadLine);
     }
     let w = cut::word(line, 0);
-    let from = w.from;
-    let to = w.to;
-    if to <= from {
-        return Line::Silent;
+    if w.to <= w.from || line[w.from] == b'#' {
+        return Ok(None);
     }
-    if line[from] == b'#' {
-        return Line::Silent;
-    }
-    if cut::same(&line[from..to], b"times") {
-        return repeated(line, to, made, numbers);
-    }
-    order(1, line, from, made, numbers)
+    let read = if &line[w.from..w.to] == b"times".as_slice() {
+        repeated(line, w.to, made, numbers)
+    } else {
+        ordered(1, line, w.from, made, numbers)
+    };
+    Ok(Some(read.ok_or(BadLine)?))
 }

@@ -1,91 +1,69 @@
-// The first word of a line, read as the name of a command: a verb is the place of its name in one list.
-use words::cut;
+// The first word of a line, read as the name of a command.
 
-// The verbs of the buffer.
-pub const BUFFER: usize = 0;
-
-pub const ADD: usize = 1;
-
-pub const REMOVE: usize = 2;
-
-pub const BEGIN: usize = 3;
-
-pub const COMMIT: usize = 4;
-
-pub const ROLLBACK: usize = 5;
-
-// Those of the tray.
-pub const ROWS: usize = 6;
-
-pub const ROW: usize = 7;
-
-pub const COST: usize = 8;
-
-pub const SET: usize = 9;
-
-pub const KEYS: usize = 10;
-
-pub const QUIET: usize = 11;
-
-pub const LOUD: usize = 12;
-
-// Those of the groups, and of what is only looked at.
-pub const GROUP: usize = 13;
-
-pub const JOIN: usize = 14;
-
-pub const FILL: usize = 15;
-
-pub const IS_FILLED: usize = 16;
-
-pub const FULL: usize = 17;
-
-pub const DISPLAY: usize = 18;
-
-// No verb.
-pub const UNKNOWN: usize = 19;
-
-// The place of a word among the names, which stand one space apart; UNKNOWN if it is none of them.
-fn place_in(names: &[u8], word: &[u8]) -> usize {
-    let mut here: usize = 0;
-    let mut place: usize = 0;
-    while place < UNKNOWN {
-        let w = cut::word(names, here);
-        let from = w.from;
-        let to = w.to;
-        if cut::same(&names[from..to], word) {
-            return place;
-        }
-        here = to;
-        place += 1;
-    }
-    UNKNOWN
+// What a name asks for: those of the buffer, then those of the tray, then those of the groups and of what is only looked at.
+#[derive(Clone, Copy)]
+pub enum Verb {
+    Buffer,
+    Add,
+    Remove,
+    Begin,
+    Commit,
+    Rollback,
+    Rows,
+    Row,
+    Cost,
+    Set,
+    Keys,
+    Quiet,
+    Loud,
+    Group,
+    Join,
+    Fill,
+    IsFilled,
+    Full,
+    Display,
 }
 
-// The verb that a word names.
-pub fn verb_of(word: &[u8]) -> usize {
-    place_in(
-        b"buffer add remove begin commit rollback rows row cost set keys quiet loud group join fill isfilled full display",
-        word,
-    )
+// The verb that a word names, if it names one.
+pub fn verb_of(word: &[u8]) -> Option<Verb> {
+    Some(match word {
+        b"buffer" => Verb::Buffer,
+        b"add" => Verb::Add,
+        b"remove" => Verb::Remove,
+        b"begin" => Verb::Begin,
+        b"commit" => Verb::Commit,
+        b"rollback" => Verb::Rollback,
+        b"rows" => Verb::Rows,
+        b"row" => Verb::Row,
+        b"cost" => Verb::Cost,
+        b"set" => Verb::Set,
+        b"keys" => Verb::Keys,
+        b"quiet" => Verb::Quiet,
+        b"loud" => Verb::Loud,
+        b"group" => Verb::Group,
+        b"join" => Verb::Join,
+        b"fill" => Verb::Fill,
+        b"isfilled" => Verb::IsFilled,
+        b"full" => Verb::Full,
+        b"display" => Verb::Display,
+        _ => return None,
+    })
 }
 
-// How many numbers a verb takes. A removal takes as many as there are.
-fn wants(verb: usize) -> usize {
+// How many numbers a verb takes; none is named for a removal, which takes as many as there are.
+fn wants(verb: Verb) -> Option<usize> {
     match verb {
-        ADD => 6,
-        FILL => 5,
-        ROW | IS_FILLED => 3,
-        BUFFER | GROUP | JOIN => 2,
-        COST | KEYS | FULL | DISPLAY => 1,
-        _ => 0,
+        Verb::Remove => None,
+        Verb::Add => Some(6),
+        Verb::Fill => Some(5),
+        Verb::Row | Verb::IsFilled => Some(3),
+        Verb::Buffer | Verb::Group | Verb::Join => Some(2),
+        Verb::Cost | Verb::Keys | Verb::Full | Verb::Display => Some(1),
+        _ => Some(0),
     }
 }
 
 // Whether a verb takes n numbers.
-pub fn takes(verb: usize, n: usize) -> bool {
-    if verb == REMOVE {
-        return true;
-    }
-    n == wants(verb)
+pub fn takes(verb: Verb, n: usize) -> bool {
+    wants(verb).is_none_or(|wanted| n == wanted)
 }

@@ -4,23 +4,22 @@ use mathlib.Core.Path.{◌≡◌, ap, ◌∙◌}
 use mathlib.Core.Logic.{◌⊎◌, inl, inr, ⊎_elim}
 use mathlib.Core.List.{List}
 use mathlib.Core.Bool.{cond}
-use Prim.Native.Nat.{ℕ, ◌+◌, ◌-◌, ◌<◌, ◌≤◌}
-use native.Mathlib.Nat.{sub-eq-zero_of_le}
+use Prim.Native.Nat.{ℕ, ◌+◌, ◌<◌, ◌≤◌}
 use native.Mathlib.Omega.{arith}
-use lib.Dec.{eqb, ltb}
-use lib.ListN.{length, get_or, take}
-use borrow.Author.Tests.{eq-eqb, ne_eqb, lt-ltb, le-ltb, ltb-true, ltb-false}
+use lib.Dec.{ltb}
+use native.Mathlib.Numerals.{add-one}
+use lib.ListN.{length, get_or, take, drop, drop_of_length-le}
+use lib.Seq.{drop-cons}
+use borrow.Author.Tests.{lt-ltb, le-ltb, ltb-true, ltb-false}
 use Rattle.moves.specs.declared.Fixed.{Fixed}
-use Rattle.columns.proofs.Scans.{turns}
 use Rattle.numbers.proofs.Bytes.{by_bool}
 use Rattle.meaning.specs.Meaning.{Columns}
 use Rattle.meaning.specs.Walks.{Ready, WalkC, walk, visit_c}
-use Rattle.meaning.specs.Passes.{line_in, position_from, second_c}
+use Rattle.meaning.specs.Passes.{position_from, second_c}
 use Rattle.meaning.proofs.Kept.{visit_keeps}
 use Rattle.meaning.proofs.Stands.{Stands, visit_stands}
 use Rattle.rosters.specs.Rosters.{Listed}
 use Rattle.rosters.proofs.Rosters.{listed_same}
-use Rattle.serving.proofs.Steps.{line_front, line_none}
 
 lt_or_le : (x y : ℕ) → (x < y) ⊎ (y ≤ x)
 lt_or_le x y = by_bool (ltb x y) (λ e. inl (ltb-true x y e)) (λ e. inr (ltb-false x y e))
@@ -57,25 +56,25 @@ pub second_none : (class cost : List ℕ) (f : Fixed) (numbers : List ℕ) (e : 
 unfolding second_c
 second_none class cost f numbers e xs z at m = rw z
 
-pub record Second (class cost : List ℕ) (f : Fixed) (numbers : List ℕ) (e : ℕ) (goal : WalkC) (xs : List ℕ) (count k at : ℕ) (roster : List ℕ)
+pub record Second (class cost : List ℕ) (f : Fixed) (numbers : List ℕ) (e : ℕ) (goal : WalkC) (xs : List ℕ) (k at : ℕ) (roster : List ℕ)
     (m : Columns) : Type 0 where
   pub ready : Ready f class cost m
   pub listed : Listed roster m.store.tally.accounts m.store.home m.store.member
-  pub same : second_c class cost f numbers e (line_in xs k count) at m ≡ goal
+  pub same : second_c class cost f numbers e (drop k xs) at m ≡ goal
 
-module _ {class cost : List ℕ} {f : Fixed} {numbers : List ℕ} {e : ℕ} {goal : WalkC} {xs : List ℕ} {count k at : ℕ} {roster : List ℕ} {m : Columns}
-    (v : Second class cost f numbers e goal xs count k at roster m) where
-  pub second_end : count ≤ k → walk at m ≡ goal
+module _ {class cost : List ℕ} {f : Fixed} {numbers : List ℕ} {e : ℕ} {goal : WalkC} {xs : List ℕ} {k at : ℕ} {roster : List ℕ} {m : Columns}
+    (v : Second class cost f numbers e goal xs k at roster m) where
+  pub second_end : length xs ≤ k → walk at m ≡ goal
   unfolding second_c
-  second_end h = rw (line_none xs k count h) at v.same
+  second_end h = rw (drop_of_length-le xs {i = k} h) at v.same
 
-  module _ (h : k < count) (l : count ≤ length xs) {j : ℕ} (je : j ≡ position_from numbers (get_or xs k 0) e 0) where
-    turn : cond (ltb j e) (second_c class cost f numbers e (line_in xs (k + 1) count) (visit_c class cost f j at m).at
-        (visit_c class cost f j at m).now) (second_c class cost f numbers e (line_in xs (k + 1) count) at m) ≡ goal
+  module _ (h : k < length xs) {j : ℕ} (je : j ≡ position_from numbers (get_or xs k 0) e 0) where
+    turn : cond (ltb j e) (second_c class cost f numbers e (drop (k + 1) xs) (visit_c class cost f j at m).at
+        (visit_c class cost f j at m).now) (second_c class cost f numbers e (drop (k + 1) xs) at m) ≡ goal
     unfolding second_c
-    turn = rw je (rw (line_front xs k count h l) at v.same)
+    turn = rw (je, add-one) (rw (drop-cons xs k 0 h) at v.same)
 
-    pub second_past : (j < e → ⊥) → Second class cost f numbers e goal xs count (k + 1) at roster m
+    pub second_past : (j < e → ⊥) → Second class cost f numbers e goal xs (k + 1) at roster m
     second_past n = record {
       ready = v.ready;
       listed = v.listed;
@@ -84,9 +83,9 @@ module _ {class cost : List ℕ} {f : Fixed} {numbers : List ℕ} {e : ℕ} {goa
 
     pub second_visits : j < e → e ≤ 64 → {i : ℕ} {x : Columns} → walk i x ≡ visit_c class cost f j at m
         → {roster' : List ℕ} → Listed roster' x.store.tally.accounts x.store.home x.store.member
-        → Second class cost f numbers e goal xs count (k + 1) i roster' x
+        → Second class cost f numbers e goal xs (k + 1) i roster' x
     second_visits n s {i} {x} w r = record {
       ready = visited_ready (omega arith) v.ready at w;
       listed = r;
-      same = ap (λ (z : WalkC). second_c class cost f numbers e (line_in xs (k + 1) count) z.at z.now) w ∙ (rw (lt-ltb j e n) at turn);
+      same = ap (λ (z : WalkC). second_c class cost f numbers e (drop (k + 1) xs) z.at z.now) w ∙ (rw (lt-ltb j e n) at turn);
     }

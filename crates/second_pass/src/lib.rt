@@ -2,7 +2,7 @@
 // holds the slots' numbers by position; `listed` the numbers of the slots that the index lists below the height, in its order.
 #![tactic(auto)]
 
-ghost use Rattle.std.specs.Prelude.{◌≡◌, ◌<◌, ◌≤◌, length, take};
+ghost use Rattle.std.specs.Prelude.{◌≡◌, ◌<◌, ◌≤◌, take};
 ghost use Rattle.slot_rows.specs.Rows.{ints_of, exts_of};
 ghost use Rattle.meaning.specs.Meaning.{columns};
 ghost use Rattle.meaning.specs.Walks.{Ready, walk, visit_c};
@@ -24,15 +24,15 @@ fn visit_slot(
     cost: &[u64; 1280],
     joined: &mut [u16; 1280],
     roster: &mut [u16; 1408],
-    table: [Slot; 64],
+    table: &mut [Slot; 64],
     fixed: Fixed,
     slot: usize,
     from: usize,
     tally: Tally,
 ) -> Served
-    requires ready { Ready fixed plan.now cost.now (columns owner.old taken.old home.old member.old (ints_of table) (exts_of table) mark.old joined.old tally) }
+    requires ready { Ready fixed plan.now cost.now (columns owner.old taken.old home.old member.old (ints_of table.old) (exts_of table.old) mark.old joined.old tally) }
     requires slot_bound { (slot < 64) × Listed roster.old tally.accounts home.old member.old }
-    ensures tally_after { walk result.at (columns owner.new taken.new home.new member.new (ints_of result.table) (exts_of result.table) mark.new joined.new result.tally) ≡ visit_c plan.now cost.now fixed slot from (columns owner.old taken.old home.old member.old (ints_of table) (exts_of table) mark.old joined.old tally) }
+    ensures tally_after { walk result.at (columns owner.new taken.new home.new member.new (ints_of table.new) (exts_of table.new) mark.new joined.new result.tally) ≡ visit_c plan.now cost.now fixed slot from (columns owner.old taken.old home.old member.old (ints_of table.old) (exts_of table.old) mark.old joined.old tally) }
     ensures listed { Listed roster.new result.tally.accounts home.new member.new }
 {
     let record = table[slot];
@@ -42,10 +42,9 @@ fn visit_slot(
     );
     let now = w.tally;
     rosters::enlist(roster, home, member, tally.accounts, now.accounts);
-    let left = w.record;
+    slot_rows::write_table(table, slot, w.record);
     Served {
         at: w.at,
-        table: slot_rows::write_table(table, slot, left),
         tally: now,
     }
 }
@@ -63,33 +62,26 @@ pub fn second(
     joined: &mut [u16; 1280],
     number: &[u16; 64],
     listed: &[u16; 1024],
-    table: [Slot; 64],
+    table: &mut [Slot; 64],
     fixed: Fixed,
     count: usize,
     entry: usize,
     from: usize,
     tally: Tally,
 ) -> Served
-    requires ready { Ready fixed plan.now cost.now (columns owner.old taken.old home.old member.old (ints_of table) (exts_of table) mark.old joined.old tally) }
+    requires ready { Ready fixed plan.now cost.now (columns owner.old taken.old home.old member.old (ints_of table.old) (exts_of table.old) mark.old joined.old tally) }
     requires bound { (entry ≤ 64) × (count ≤ 1024) }
-    requires number_len { (length number.now ≡ 64) × (length listed.now ≡ 1024) }
-    ensures { walk result.at (columns owner.new taken.new home.new member.new (ints_of result.table) (exts_of result.table) mark.new joined.new result.tally) ≡ second_c plan.now cost.now fixed number.now entry (take count listed.now) from (columns owner.old taken.old home.old member.old (ints_of table) (exts_of table) mark.old joined.old tally) }
+    ensures { walk result.at (columns owner.new taken.new home.new member.new (ints_of table.new) (exts_of table.new) mark.new joined.new result.tally) ≡ second_c plan.now cost.now fixed number.now entry (take count listed.now) from (columns owner.old taken.old home.old member.old (ints_of table.old) (exts_of table.old) mark.old joined.old tally) }
 {
     if count == 0 {
-        return Served {
-            at: from,
-            table,
-            tally,
-        };
+        return Served { at: from, tally };
     }
     let mut roster = [65535u16; 1408];
     rosters::enlist(&mut roster, home, member, 0, tally.accounts);
-    let mut i: usize = 0;
     let mut at = from;
-    let mut table = table;
     let mut now = tally;
-    while i < count {
-        let slot = positions::position_of(number, entry, SlotId(listed[i]));
+    for id in &listed[..count] {
+        let slot = positions::position_of(number, entry, SlotId(*id));
         if slot < entry {
             let w = visit_slot(
                 owner,
@@ -108,14 +100,8 @@ pub fn second(
                 now,
             );
             at = w.at;
-            table = w.table;
             now = w.tally;
         }
-        i += 1;
     }
-    Served {
-        at,
-        table,
-        tally: now,
-    }
+    Served { at, tally: now }
 }

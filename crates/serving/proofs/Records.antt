@@ -1,6 +1,6 @@
 -- A slot of the table by its record: what the routines need of the table they need of the record, and what they make of the record, written
 -- back, is what the rule makes of the table. Assumes nothing.
-use mathlib.Core.Path.{◌≡◌, sym, ap, ◌∙◌}
+use mathlib.Core.Path.{◌≡◌, ap, ◌∙◌}
 use mathlib.Core.List.{List}
 use Prim.Native.Nat.{ℕ, ◌+◌, ◌<◌}
 use native.Mathlib.Omega.{arith}

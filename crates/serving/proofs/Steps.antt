@@ -47,14 +47,19 @@ module _ {class cost : List ℕ} {f : Fixed} {goal : WalkC} {ls : List ℕ} {h t
   serve_none zero x k = refl
   serve_none (suc r) x k = refl
 
-  pub serve_end : waits i f.places h t ≡ false → walk i m ≡ goal
+  -- the test of the loop, as the routine `waiting` answers it
+  pub serve_end : {y : Bool} → y ≡ waits i f.places h t → y ≡ false → walk i m ≡ goal
   unfolding serve_c
-  serve_end e =
+  serve_end ye yf =
+      let e : waits i f.places h t ≡ false = sym ye ∙ yf in
       by_bool (ltb i f.places)
       (λ a. let b : t ≤ h = ltb-false h t (rw a at e) in sym (serve_none (f.places - i) m i) ∙ (rw (line_none ls h t b) at v.same))
       (λ a. let b : f.places ≤ i = ltb-false i f.places a in rw (sub-eq-zero_of_le b) at v.same)
 
-  module _ (w : waits i f.places h t ≡ true) where
+  module _ {y : Bool} (ye : y ≡ waits i f.places h t) (yt : y ≡ true) where
+    w : waits i f.places h t ≡ true
+    w = sym ye ∙ yt
+
     both : (i < f.places) × (h < t)
     both = by_bool (ltb i f.places) (λ a. (ltb-true i f.places a, ltb-true h t (rw a at w)))
         (λ a. absurd (let y : ◌≡◌ {A = ℕ} 0 1 = (let z : ◌≡◌ {A = Bool} false true = rw a at w in cc) in omega arith))
@@ -64,6 +69,16 @@ module _ {class cost : List ℕ} {f : Fixed} {goal : WalkC} {ls : List ℕ} {h t
 
     pub in_line : h < t
     in_line = both.1
+
+    pub place_fits : i < 256
+    place_fits = omega (arith, in_places, v.ready.good.store.places_fit)
+
+    -- a push finds room
+    pub line_fits : t < 320
+    line_fits = omega (arith, v.fits, place_fits)
+
+    pub head_fits : h < 320
+    head_fits = omega (arith, in_line, line_fits)
 
     abbrev j : ℕ
     j = get_or ls h 0

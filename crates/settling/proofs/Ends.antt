@@ -58,8 +58,8 @@ module _ {taken : List ℕ} {n : ℕ} {member : List ℕ} {members at : ℕ} {fr
 abbrev pub Counts : (ints exts counts : List ℕ) → Type 0
 Counts ints exts counts = (length counts ≡ 64) × ((i : ℕ) → i < 64 → get_or counts i 0 ≡ get_or ints i 0 + get_or exts i 0)
 
-pub countable : (ints exts : List ℕ) → length ints ≡ 64 → length exts ≡ 64 → ((j : ℕ) → j < 64 → held_at ints exts j ≤ 16) → Countable 64 ints exts
-countable ints exts a b low = record { few = omega arith; ints_long = a; exts_long = b; low = λ i l. omega (arith, low i l) }
+pub countable : (ints exts : List ℕ) → ((j : ℕ) → j < 64 → held_at ints exts j ≤ 16) → Countable 64 ints exts
+countable ints exts low = record { few = omega arith; low = λ i l. omega (arith, low i l) }
 
 pub counts_are : (ints exts counts : List ℕ) → Counts ints exts counts → counts ≡ held_by 64 ints exts
 counts_are ints exts counts h =

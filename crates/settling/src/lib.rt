@@ -136,7 +136,7 @@ fn settle_group(
         n,
         ints,
         opens,
-        numbers::wide16(last.0),
+        usize::from(last.0),
         numbers2,
     );
 }

@@ -5,9 +5,8 @@ use Prim.Native.Nat.{ℕ, ◌*◌, ◌+◌}
 use native.Mathlib.Numerals.{add-one}
 use native.Mathlib.Omega.{arith}
 use Rattle.rules.specs.Calls.{Answer, Store}
-use Rattle.message.specs.declared.Code.{Code}
 use Rattle.message.specs.declared.Message.{Message}
-use Rattle.message.specs.Answers.{number as number_of}
+use Rattle.message.specs.Answers.{Code, number as number_of}
 use Rattle.message.specs.Real.{Real}
 use Rattle.queues.specs.Meant.{meant}
 use Rattle.display.specs.Pieces.{Puts}

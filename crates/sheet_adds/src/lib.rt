@@ -27,15 +27,10 @@ pub struct Reached {
 pub fn fresh() -> State
     ensures { GoodState result × (meant_by result ≡ fresh_held) }
 {
-    let b = Buffer::set_up(256, 64);
-    let buffer = b.buffer;
-    let g = Group::set_up(16);
-    let group = g.group;
-    let skipped = Skipped::fresh();
     State {
-        buffer,
-        group,
-        skipped,
+        buffer: Buffer::set_up(256, 64).buffer,
+        group: Group::set_up(16).group,
+        skipped: Skipped::fresh(),
     }
 }
 
@@ -44,19 +39,13 @@ fn add(s: State, m: Message, number: u64, out: &mut [u8], at: usize) -> Reached
     requires { GoodState s × (at + 51 ≤ length out.old) }
     ensures { Tells (added m number (meant_by s)) 51 at out.old out.new result }
 {
-    let b = s.buffer;
-    let group = s.group;
-    let skipped = s.skipped;
-    let a = b.add_message(m);
-    let buffer = a.buffer;
-    let code = a.code;
-    let c = numbers::wide8(message::number_of(code));
-    let end = answers::put_refusal(out, at, number, c as u64);
+    let a = s.buffer.add_message(m);
+    let code = u64::from(message::number_of(a.code));
+    let end = answers::put_refusal(out, at, number, code);
     Reached {
         state: State {
-            buffer,
-            group,
-            skipped,
+            buffer: a.buffer,
+            ..s
         },
         at: end,
     }
@@ -68,12 +57,9 @@ pub fn all(s: State, cells: &[u64], n: usize, out: &mut [u8], at: usize) -> Reac
     ensures { Tells (adds cells.now n (meant_by s)) (51 * n) at out.old out.new result }
 {
     let mut done = Reached { state: s, at };
-    let mut i: usize = 0;
-    while i < n {
+    for i in 0..n {
         let m = sheet_rows::message_of(cells, i);
-        let state = done.state;
-        done = add(state, m, i as u64 + 1, out, done.at);
-        i += 1;
+        done = add(done.state, m, i as u64 + 1, out, done.at);
     }
     done
 }

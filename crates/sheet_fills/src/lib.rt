@@ -26,18 +26,15 @@ pub fn fill(b: Buffer, g: Group, s: Skipped, rows: Rows, asked: Asked) -> FillAn
     ensures { FillsBy (fill_group Real (args_of (skips_in rows) asked) no_keys (store_meant (cols_of b)) (target_meant (table_of g)) (accounts_in s)) result }
 {
     let size = 32 * rows.count;
-    let names = rows.names;
-    let verdicts = rows.verdicts;
-    let costs = rows.costs;
     let mut lts = [0u64; 256];
     let mut hashes = [0u8; 8192];
     b.fill(
         g,
         s,
         asked,
-        &names[..size],
-        &verdicts,
-        &costs,
+        &rows.names[..size],
+        &rows.verdicts,
+        &rows.costs,
         &mut lts,
         &mut hashes,
     )
@@ -48,18 +45,16 @@ pub fn put(f: FillAnswer, number: u64, out: &mut [u8], at: usize) -> usize
     requires { GoodGroup f.group × (at + 247 ≤ length out.old) }
     ensures { Puts (fill_lines number (number_of f.code) f.collected f.operations f.dropped (target_meant (table_of f.group))) 247 at out.old out.new result }
 {
-    let code = f.code;
-    let c = numbers::wide8(message::number_of(code));
+    let code = u64::from(message::number_of(f.code));
     let one = tally_lines::put_fill(
         out,
         at,
         number,
-        c as u64,
+        code,
         f.collected as u64,
         f.operations,
         f.dropped as u64,
     );
-    let g = f.group;
-    let size = g.display(&mut out[one..]);
+    let size = f.group.display(&mut out[one..]);
     answers::end_line(out, one + size)
 }

@@ -13,15 +13,13 @@ pub struct Rows {
 }
 
 // Writes the names of the first n accounts.
-fn put_names(cells: &[u64], n: usize, names: &mut [u8])
-    requires { (3 * n ≤ length cells.now) × (n ≤ 64) × (length names.old ≡ 2048) }
+fn put_names(cells: &[u64], n: usize, names: &mut [u8; 2048])
+    requires { (3 * n ≤ length cells.now) × (n ≤ 64) }
     ensures { NamesLaid cells.now n names.new }
 {
-    let mut i: usize = 0;
-    while i < n {
+    for i in 0..n {
         let name = words::name::name_of(cells[3 * i]);
         rows::put_row(names, i, &name);
-        i += 1;
     }
 }
 
@@ -30,10 +28,8 @@ fn put_verdicts(cells: &[u64], n: usize, verdicts: &mut [u8])
     requires { (3 * n ≤ length cells.now) × (n ≤ length verdicts.old) }
     ensures { VerdictsLaid cells.now n verdicts.new }
 {
-    let mut i: usize = 0;
-    while i < n {
+    for i in 0..n {
         verdicts[i] = if cells[3 * i + 1] == 0 { 0 } else { 1 };
-        i += 1;
     }
 }
 
@@ -42,10 +38,8 @@ fn put_costs(cells: &[u64], n: usize, costs: &mut [u64])
     requires { (3 * n ≤ length cells.now) × (n ≤ length costs.old) }
     ensures { CostsLaid cells.now n costs.new }
 {
-    let mut i: usize = 0;
-    while i < n {
+    for i in 0..n {
         costs[i] = cells[3 * i + 2];
-        i += 1;
     }
 }
 

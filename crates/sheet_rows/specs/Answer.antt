@@ -1,6 +1,6 @@
 -- What a sheet is answered by, and what its messages and fills leave, as the rules have it. Each definition stands under the words of document
 -- 01 that it renders. The numbers of a line are read from a table of cells that has as many to a row as the line has. Assumes nothing.
-use Rattle.std.specs.Prelude.{false, cond, not, List, [], ◌++◌, ℕ, zero, suc, ◌+◌, ◌*◌, eqb, get_or, replicate}
+use Rattle.std.specs.Prelude.{false, cond, not, Result, Ok, Err, List, [], ◌++◌, ℕ, zero, suc, ◌+◌, ◌*◌, eqb, get_or, replicate}
 use Rattle.rules.specs.World.{Skip, Args, Filter.off, Filter.below, least_read}
 use Rattle.rules.specs.Queues.{held_ints, held_exts, held_accounts}
 use Rattle.rules.specs.Calls.{Store, Target, Answer, FillAnswer, set_up_buffer, set_up_group, add_message, fill_group}
@@ -11,6 +11,7 @@ use Rattle.message.specs.Real.{Real, Key, offer}
 use Rattle.columns.specs.Lists.{tab_i}
 use Rattle.words.specs.Digits.{name_of}
 use Rattle.group_reads.specs.Shown.{counts_of, line_for}
+use Rattle.sections.specs.declared.Broken.{Broken}
 use Rattle.text.specs.declared.sheet.Parsed.{Parsed}
 use Rattle.answers.specs.Answer.{newline, broken_line, refusal, fill_line, left_line}
 
@@ -120,5 +121,6 @@ unfoldable pub play_lines : Parsed → List ℕ
 play_lines p = (played p).text ++ left_of (played p).held.store
 
 -- "At the first broken, missing or extra line .. it prints only `sheet line N`"
-unfoldable pub answer_to : Parsed → List ℕ
-answer_to p = cond (eqb p.broken 0) (play_lines p) (broken_line p.broken)
+unfoldable pub answer_to : Result Parsed Broken → List ℕ
+answer_to (Ok p) = play_lines p
+answer_to (Err b) = broken_line b.line

@@ -14,7 +14,7 @@ use borrow.Author.Tests.{lt-ltb, le-ltb, le-leb, ltb-true, ltb-false, leb-true, 
 use Rattle.numbers.proofs.Bytes.{by_bool, clash}
 use Rattle.words.specs.Cut.{leading, before}
 use Rattle.words.specs.Digits.{value_from, spelled, is_digit, digits_only, value_of, is_number, number_of, places_in, places, decimal}
-use Rattle.words.specs.declared.decimal.Number.TheVariants.{Value, Nothing}
+use Rattle.std.proofs.Common.{Some, None}
 use Rattle.words.proofs.Reading.{digit_bounds}
 use Rattle.words.proofs.Placing.{one_place, one_more, places_low}
 use Rattle.words.proofs.Back.{enough, all_digits, length_spelled, decimal_back}
@@ -169,13 +169,13 @@ decimal_plain n small =
     rw (ne_eqb (get_or (spelled 10 48 (places_in 19 n) n []) 0 0) 48 (λ e. omega (arith, e))) (or_true (ltb (length (decimal n)) 2)))
 
 -- what is read as a number has the parts of a number
-pub number_parts : (word : List ℕ) (n : ℕ) → number_of word ≡ Value n → (is_number word ≡ true) × (value_of word ≡ n)
+pub number_parts : (word : List ℕ) (n : ℕ) → number_of word ≡ Some n → (is_number word ≡ true) × (value_of word ≡ n)
 unfolding number_of
 number_parts word n e =
     by_bool (is_number word)
-    (λ t. let same : Value (value_of word) ≡ Value n = rw t at e in (t, cc))
+    (λ t. let same : Some (value_of word) ≡ Some n = rw t at e in (t, cc))
     (λ f.
-    let other : Nothing ≡ Value n = rw f at e in
+    let other : None ≡ Some n = rw f at e in
     let none : ◌≡◌ {A = ℕ} 0 1 = cc in
     absurd (omega arith))
 

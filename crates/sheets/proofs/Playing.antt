@@ -14,6 +14,8 @@ use Rattle.buffer_reads.specs.Shown.{counts_of}
 use Rattle.display.specs.Pieces.{Puts}
 use Rattle.display.proofs.Pieces.{puts_then}
 use Rattle.lintelsong.specs.Closed.{cols_of}
+use Rattle.std.proofs.Common.{Result, Ok, Err}
+use Rattle.sections.specs.declared.Broken.{Broken}
 use Rattle.text.specs.declared.sheet.Parsed.{Parsed}
 use Rattle.answers.specs.Answer.{broken_line, left_line}
 use Rattle.sheet_adds.specs.declared.State.{State}
@@ -46,12 +48,11 @@ play_told p s {rows} {out} {one} {two} {after} {a} {b} {r} few less e f v w z =
     puts_wider (omega arith) (puts_then t.put z')
 
 -- the answer
-module _ {p q : Parsed} (e : p ≡ q) {out after : List ℕ} {r : ℕ} where
-  pub broken_told : (p.broken ≡ 0 → ⊥) → Puts (broken_line p.broken) 32 0 out after r → Puts (answer_to q) 42030 0 out after r
+module _ {q : Result Parsed Broken} {out after : List ℕ} {r : ℕ} where
+  pub broken_told : (b : Broken) → Err b ≡ q → Puts (broken_line b.line) 32 0 out after r → Puts (answer_to q) 42030 0 out after r
   unfolding answer_to
-  broken_told d v =
-      subst (λ (x : Parsed). Puts (answer_to x) 42030 0 out after r) e (rw (ne_eqb p.broken 0 d) (puts_wider (omega arith) v))
+  broken_told b e v = subst (λ (x : Result Parsed Broken). Puts (answer_to x) 42030 0 out after r) e (puts_wider (omega arith) v)
 
-  pub sheet_told : p.broken ≡ 0 → Puts (play_lines p) 42030 0 out after r → Puts (answer_to q) 42030 0 out after r
+  pub sheet_told : (p : Parsed) → Ok p ≡ q → Puts (play_lines p) 42030 0 out after r → Puts (answer_to q) 42030 0 out after r
   unfolding answer_to
-  sheet_told z v = subst (λ (x : Parsed). Puts (answer_to x) 42030 0 out after r) e (rw (eq-eqb p.broken 0 z) v)
+  sheet_told p e v = subst (λ (x : Result Parsed Broken). Puts (answer_to x) 42030 0 out after r) e v

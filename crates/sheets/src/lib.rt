@@ -31,14 +31,10 @@ fn play(p: Parsed, out: &mut [u8]) -> usize
     ensures { Puts (play_lines p) 42030 0 out.old out.new result }
 {
     let start = sheet_adds::fresh();
-    let message = p.message;
-    let added = sheet_adds::all(start, &message, p.messages, out, 0);
-    let skip = p.skip;
-    let rows = sheet_fills::skips::rows_of(&skip, p.skips);
-    let fill = p.fill;
-    let filled = runs::all(added.state, rows, &fill, p.fills, out, added.at);
-    let last = filled.state;
-    put_left(last.buffer, out, filled.at)
+    let added = sheet_adds::all(start, &p.message, p.messages, out, 0);
+    let rows = sheet_fills::skips::rows_of(&p.skip, p.skips);
+    let filled = runs::all(added.state, rows, &p.fill, p.fills, out, added.at);
+    put_left(filled.state.buffer, out, filled.at)
 }
 
 // Puts the answer to a sheet to the start of what is lent, and says how long it is. There is room for the longest answer.
@@ -46,9 +42,8 @@ pub fn answer(text: &[u8], out: &mut [u8]) -> usize
     requires { 42030 ≤ length out.old }
     ensures { Puts (answer_to (laid_out (read text.now))) 42030 0 out.old out.new result }
 {
-    let p = text::sheet::parse(text);
-    if p.broken != 0 {
-        return answers::put_broken(out, 0, p.broken as u64);
+    match text::sheet::parse(text) {
+        Ok(p) => play(p, out),
+        Err(broken) => answers::put_broken(out, 0, broken.line as u64),
     }
-    play(p, out)
 }

@@ -14,19 +14,13 @@ fn step(s: State, rows: Rows, asked: Asked, number: u64, out: &mut [u8], at: usi
     requires { GoodState s × GoodRows rows × (at + 247 ≤ length out.old) }
     ensures { Tells (filled (args_of (skips_in rows) asked) number (meant_by s)) 247 at out.old out.new result }
 {
-    let b = s.buffer;
-    let g = s.group;
-    let k = s.skipped;
-    let f = sheet_fills::fill(b, g, k, rows, asked);
+    let f = sheet_fills::fill(s.buffer, s.group, s.skipped, rows, asked);
     let end = sheet_fills::put(f, number, out, at);
-    let buffer = f.buffer;
-    let group = f.group;
-    let skipped = f.skipped;
     Reached {
         state: State {
-            buffer,
-            group,
-            skipped,
+            buffer: f.buffer,
+            group: f.group,
+            skipped: f.skipped,
         },
         at: end,
     }
@@ -38,12 +32,9 @@ pub fn all(s: State, rows: Rows, cells: &[u64], n: usize, out: &mut [u8], at: us
     ensures { Tells (fills (skips_in rows) cells.now n (meant_by s)) (247 * n) at out.old out.new result }
 {
     let mut done = Reached { state: s, at };
-    let mut i: usize = 0;
-    while i < n {
+    for i in 0..n {
         let asked = sheet_rows::asked_of(cells, i);
-        let state = done.state;
-        done = step(state, rows, asked, i as u64 + 1, out, done.at);
-        i += 1;
+        done = step(done.state, rows, asked, i as u64 + 1, out, done.at);
     }
     done
 }

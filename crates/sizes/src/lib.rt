@@ -6,9 +6,10 @@ ghost use Rattle.std.specs.Prelude.{◌≡◌};
 ghost use Rattle.rules.specs.Calls.{within as in_range};
 ghost use Rattle.sizes.specs.Sizes.{size_for, slots_for};
 
-use message::Code;
+use message::{Code, Refusal};
 
 // What a set-up of a buffer answers: its code, and the messages and accounts that it gives room for.
+// stays: what may not change: `size_for` promises a size on a refusal too (specs/Sizes), so the code stands beside it.
 #[derive(Clone, Copy)]
 pub struct Size {
     pub code: Code,
@@ -17,6 +18,7 @@ pub struct Size {
 }
 
 // What a set-up of a group answers: its code, and the slots that it gives room for.
+// stays: what may not change: `slots_for` promises a size on a refusal too (specs/Sizes).
 #[derive(Clone, Copy)]
 pub struct Slots {
     pub code: Code,
@@ -34,17 +36,15 @@ fn within(n: u64, high: u64) -> bool
 pub fn size_for(m: u64, a: u64) -> Size
     ensures { result ≡ size_for m a }
 {
-    if within(m, 1024) {
-        if within(a, 256) {
-            return Size {
-                code: Code::Done,
-                messages: m,
-                accounts: a,
-            };
-        }
+    if within(m, 1024) && within(a, 256) {
+        return Size {
+            code: Ok(()),
+            messages: m,
+            accounts: a,
+        };
     }
     Size {
-        code: Code::SetUp,
+        code: Err(Refusal::SetUp),
         messages: 1,
         accounts: 1,
     }
@@ -54,14 +54,15 @@ pub fn size_for(m: u64, a: u64) -> Size
 pub fn slots_for(s: u64) -> Slots
     ensures { result ≡ slots_for s }
 {
-    if !within(s, 64) {
-        return Slots {
-            code: Code::SetUp,
+    if within(s, 64) {
+        Slots {
+            code: Ok(()),
+            slots: s,
+        }
+    } else {
+        Slots {
+            code: Err(Refusal::SetUp),
             slots: 1,
-        };
-    }
-    Slots {
-        code: Code::Done,
-        slots: s,
+        }
     }
 }

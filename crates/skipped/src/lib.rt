@@ -9,8 +9,6 @@ ghost use Rattle.message.specs.Real.{Real};
 ghost use Rattle.message.specs.Seen.{seen_account};
 ghost use Rattle.skipped.specs.Sets.{GoodSet, accounts_in};
 
-use message::SeenAccount;
-
 #[derive(Clone, Copy)]
 pub struct Skipped {
     pub accounts: [u8; 16384],
@@ -44,26 +42,20 @@ impl Skipped {
     {
         let accounts = self.accounts;
         let held = self.held;
-        let x = name;
-        rows::find_row(&accounts, held, &x) < held
+        rows::find_row(&accounts, held, &name) < held
     }
 
     // The account at a position, in the order in which they joined; none past the end.
-    pub fn account_at(self, position: usize) -> SeenAccount
+    pub fn account_at(self, position: usize) -> Option<[u8; 32]>
         requires { GoodSet self }
         ensures { result ≡ seen_account (nth position (accounts_in self)) }
     {
         let accounts = self.accounts;
         let held = self.held;
         if position < held {
-            return SeenAccount {
-                found: true,
-                account: rows::get_row(&accounts, position),
-            };
-        }
-        SeenAccount {
-            found: false,
-            account: [0u8; 32],
+            Some(rows::get_row(&accounts, position))
+        } else {
+            None
         }
     }
 }

@@ -20,8 +20,8 @@ fn join_slots(
     ensures { SlotsJoined held n first ints2.now exts2.now number.old ints.old exts.old number.new ints.new exts.new }
 {
     laying::count_up(number, held, n, first);
-    laying::lay_bytes(ints, held, ints2, n);
-    laying::lay_bytes(exts, held, exts2, n);
+    laying::lay(ints, held, ints2, n);
+    laying::lay(exts, held, exts2, n);
 }
 
 // The right's n slots behind the left's, numbered from `first` on, each listed in the bucket of its count.

@@ -10,10 +10,7 @@ use moves::Slot;
 pub fn written(stood: Slot, left: Slot) -> Slot
     ensures { result ≡ left }
 {
-    Slot {
-        ints: left.ints,
-        exts: left.exts,
-    }
+    Slot { ..left }
 }
 
 // The thin routine: the record at a place of a lent row is read, and written back as the visit left it.
@@ -24,43 +21,34 @@ pub fn write(slots: &mut [Slot], at: usize, record: Slot)
     slots[at] = written(slots[at], record);
 }
 
-// The table by value: its row is lent to `write`.
-pub fn write_table(table: [Slot; 64], at: usize, record: Slot) -> [Slot; 64]
+// The lent table: its row is lent on to `write`.
+pub fn write_table(table: &mut [Slot; 64], at: usize, record: Slot)
     requires { at < 64 }
-    ensures { result ≡ set table at «record» }
+    ensures { table.new ≡ set table.old at «record» }
 {
-    let mut t = table;
-    write(&mut t, at, record);
-    t
+    write(table, at, record);
 }
 
 // The table of two columns of counts.
 pub fn gather(ints: &[u8; 64], exts: &[u8; 64]) -> [Slot; 64]
-    requires { (length ints.now ≡ 64) × (length exts.now ≡ 64) }
     ensures { (ints_of result ≡ ints.now) × (exts_of result ≡ exts.now) }
 {
     let mut table = [Slot { ints: 0, exts: 0 }; 64];
-    let mut i: usize = 0;
-    while i < 64 {
-        table[i] = Slot {
+    for (i, record) in table.iter_mut().enumerate() {
+        *record = Slot {
             ints: ints[i],
             exts: exts[i],
         };
-        i += 1;
     }
     table
 }
 
 // The columns of a table, written over two columns of counts.
-pub fn spread(table: [Slot; 64], ints: &mut [u8; 64], exts: &mut [u8; 64])
-    requires { (length ints.old ≡ 64) × (length exts.old ≡ 64) }
-    ensures { (ints.new ≡ ints_of table) × (exts.new ≡ exts_of table) }
+pub fn spread(table: &[Slot; 64], ints: &mut [u8; 64], exts: &mut [u8; 64])
+    ensures { (ints.new ≡ ints_of table.now) × (exts.new ≡ exts_of table.now) }
 {
-    let mut i: usize = 0;
-    while i < 64 {
-        let record = table[i];
+    for (i, record) in table.iter().enumerate() {
         ints[i] = record.ints;
         exts[i] = record.exts;
-        i += 1;
     }
 }

@@ -1,13 +1,12 @@
 -- What a join makes of the columns of two groups. "The right group's slots, by rising number, take the numbers after the left's last, or from
 -- 0 if it has none, and its last follows; each is listed in the bucket of its count. Counts add, lists move, the right is left fresh."
 -- Assumes nothing.
-use Rattle.std.specs.Prelude.{◌≡◌, Bool, true, false, cond, List, [], ◌∷◌, map, ℕ, zero, suc, ◌+◌, ◌-◌, ◌*◌, eqb, leb, ltb, length, get_or, take, set, replicate}
+use Rattle.std.specs.Prelude.{◌≡◌, Bool, true, false, cond, List, [], ◌∷◌, map, ℕ, zero, suc, ◌+◌, ◌-◌, ◌*◌, eqb, leb, ltb, length, get_or, take, set, replicate, Err}
 use Rattle.columns.specs.Lists.{tab_i}
 use Rattle.columns.specs.Laid.{laid_at}
 use Rattle.columns.specs.Rows.{row_at, rows_of, index_of}
-use Rattle.message.specs.declared.Code.{Code}
-use Rattle.message.specs.declared.Code.TheVariants.{Done, ManySlots, SharedAccount, NumbersUsedUp}
-use Rattle.message.specs.Answers.{number as number_of}
+use Rattle.message.specs.declared.Refusal.TheVariants.{ManySlots, SharedAccount, NumbersUsedUp}
+use Rattle.message.specs.Answers.{Code, Done, number as number_of}
 use Rattle.slots.specs.Table.{Table, count}
 
 -- a fresh group of S slots
@@ -50,9 +49,9 @@ shared_t m left (suc n) right = cond (ltb (index_of (row_at right n) (rows_of m 
 -- codes 14, 15, 12 in this order
 unfoldable pub join_code_by : (ns accounts ns2 accounts2 : List ℕ) → Code
 join_code_by ns accounts ns2 accounts2 =
-    cond (ltb (get_or ns 0 0) (get_or ns 1 0 + get_or ns2 1 0)) ManySlots
-    (cond (shared_t (get_or ns 2 0) accounts (get_or ns2 2 0) accounts2) SharedAccount
-    (cond (leb 65535 (next_by ns + get_or ns2 1 0)) NumbersUsedUp Done))
+    cond (ltb (get_or ns 0 0) (get_or ns 1 0 + get_or ns2 1 0)) (Err ManySlots)
+    (cond (shared_t (get_or ns 2 0) accounts (get_or ns2 2 0) accounts2) (Err SharedAccount)
+    (cond (leb 65535 (next_by ns + get_or ns2 1 0)) (Err NumbersUsedUp) Done))
 
 abbrev pub join_code_t : Table → Table → Code
 join_code_t l r = join_code_by l.numbers l.accounts r.numbers r.accounts

@@ -7,7 +7,7 @@ ghost use Rattle.slots.specs.Join.{next_by};
 
 // The number of the first new slot: behind the last, or 0 if there is none.
 pub fn next_number(numbers: &[u64; 16]) -> usize
-    requires { (length numbers.now ≡ 16) × (get_or numbers.now 6 0 ≤ 65535) }
+    requires { get_or numbers.now 6 0 ≤ 65535 }
     ensures { result ≡ next_by numbers.now }
 {
     if numbers[7] == 0 {
@@ -22,15 +22,13 @@ pub fn home_of(home: &[u8], n: usize, position: usize, k: usize) -> usize
     ensures { result ≡ row_of home.now n position k }
 {
     let mut behind = k;
-    let mut i: usize = 0;
-    while i < n {
-        if numbers::wide8(home[i]) == position {
+    for i in 0..n {
+        if usize::from(home[i]) == position {
             if behind == 0 {
                 return i;
             }
             behind -= 1;
         }
-        i += 1;
     }
-    i
+    n
 }

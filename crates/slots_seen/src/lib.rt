@@ -2,11 +2,11 @@
 // the calls by value and the exports are made of these.
 #![tactic(auto)]
 
-ghost use Rattle.std.specs.Prelude.{◌≡◌, length};
+ghost use Rattle.std.specs.Prelude.{◌≡◌, ◌≤◌, get_or};
 ghost use Rattle.buckets.specs.Cells.{GoodBuckets};
-ghost use Rattle.slots_seen.specs.Slots.{slot_found, entry_in, id_found, SlotsIn};
+ghost use Rattle.slots_seen.specs.Slots.{slot_found, entry_in, id_found};
 
-use group_reads::{SeenId, SeenSlot};
+use group_reads::SeenSlot;
 use numbers::SlotId;
 
 // The slot at a position, by rising number; none past the end.
@@ -16,23 +16,18 @@ pub fn slot_at(
     exts: &[u8; 64],
     numbers: &[u64; 16],
     position: usize,
-) -> SeenSlot
-    requires { SlotsIn (length number.now) (length ints.now) (length exts.now) numbers.now }
+) -> Option<SeenSlot>
+    requires { get_or numbers.now 1 0 ≤ 64 }
     ensures { result ≡ slot_found number.now ints.now exts.now numbers.now position }
 {
     if position < numbers[1] as usize {
-        return SeenSlot {
-            found: true,
+        Some(SeenSlot {
             id: SlotId(number[position]),
             ints: ints[position],
             exts: exts[position],
-        };
-    }
-    SeenSlot {
-        found: false,
-        id: SlotId(0),
-        ints: 0,
-        exts: 0,
+        })
+    } else {
+        None
     }
 }
 
@@ -41,30 +36,21 @@ fn entry_in(buckets: &[u32; 1088], count: usize, k: usize) -> u32
     requires { GoodBuckets buckets.now }
     ensures { result ≡ entry_in buckets.now count k }
 {
-    if 17 <= count {
+    if 17 <= count || 64 <= k {
         return buckets::NONE;
     }
-    if 64 <= k {
-        return buckets::NONE;
-    }
-    let cells = *buckets;
-    buckets::entry(cells, count, k)
+    buckets::entry(buckets, count, k)
 }
 
 // The k-th slot number that the bucket of a count lists; none past either end.
-pub fn bucket_at(buckets: &[u32; 1088], count: usize, k: usize) -> SeenId
+pub fn bucket_at(buckets: &[u32; 1088], count: usize, k: usize) -> Option<SlotId>
     requires { GoodBuckets buckets.now }
     ensures { result ≡ id_found (entry_in buckets.now count k) }
 {
     let entry = entry_in(buckets, count, k);
     if entry < buckets::NONE {
-        return SeenId {
-            found: true,
-            id: SlotId(entry as u16),
-        };
-    }
-    SeenId {
-        found: false,
-        id: SlotId(0),
+        Some(SlotId(entry as u16))
+    } else {
+        None
     }
 }

@@ -17,7 +17,7 @@ use Rattle.columns.specs.Lists.{tab_i, gather, rank}
 use Rattle.columns.specs.Laid.{laid_at}
 use Rattle.columns.specs.Rows.{flat}
 use Rattle.columns.proofs.Laid.{middle_laid, laid_none}
-use Rattle.message.specs.declared.Code.{Code}
+use Rattle.message.specs.Answers.{Code}
 use Rattle.message.specs.declared.Filter.{Filter}
 use Rattle.message.specs.declared.Filter.TheVariants.{Off, Below}
 use Rattle.message.specs.Real.{filter_of}

@@ -19,7 +19,7 @@ pub fn idle(places: u64, opens: usize, height: usize, filter: Filter, buckets: [
         return false;
     }
     match filter {
-        Filter::Off => buckets::none_below(buckets, height),
+        Filter::Off => buckets::none_below(&buckets, height),
         Filter::Below(_) => false,
     }
 }

@@ -1,8 +1,10 @@
 // The queue of a party, walked along its chain (`plan`, crate `moves`), so that no row of another is looked at: passing over it, counting it, taking
 // from its front.
+// stays: the three loops go from a row to the next of its chain and write the owners on the way, so they are no `for`: an iterator over the chain
+// would need a type, an `impl` and contracts of its own, longer than the one line `i = next_of(plan, i)` that it would hide.
 #![tactic(auto)]
 
-ghost use Rattle.std.specs.Prelude.{◌≡◌, ◌+◌, ◌-◌, ◌<◌, ◌≤◌, length};
+ghost use Rattle.std.specs.Prelude.{◌≡◌, ◌+◌, ◌-◌, ◌<◌, ◌≤◌};
 ghost use Rattle.columns.specs.Lists.{count_i};
 ghost use Rattle.moves.specs.Moves.{lapsed as lapsed_of, pass_owners, take_c, TookIs, queued_c, wanted_c};
 ghost use Rattle.moves.specs.Good.{live};
@@ -23,13 +25,15 @@ const FIRSTS: usize = 2048;
 // ---- the chain
 
 // The first row of a party's queue. A party past the places has none.
+#[tactic(auto, unfolding(moves::specs::Linked::first_of))]
 fn first_of(plan: &[u16; 2304], party: usize) -> usize
     ensures { result ≡ first_of plan.now party }
 {
     if party < PLACES {
-        return numbers::wide16(plan[FIRSTS + party]);
+        usize::from(plan[FIRSTS + party])
+    } else {
+        ROWS
     }
-    ROWS
 }
 
 // The row behind a row in its queue.
@@ -37,7 +41,7 @@ fn next_of(plan: &[u16; 2304], row: usize) -> usize
     requires { row < 1024 }
     ensures { result ≡ next_of plan.now row }
 {
-    numbers::wide16(plan[ROWS + row])
+    usize::from(plan[ROWS + row])
 }
 
 // ---- passing over
@@ -46,15 +50,12 @@ fn next_of(plan: &[u16; 2304], row: usize) -> usize
 fn lapsed(owner: u16, class: u16, party: usize) -> bool
     ensures { result ≡ lapsed_of party owner class }
 {
-    if numbers::wide16(owner) == party {
-        return class == 2;
-    }
-    false
+    usize::from(owner) == party && class == 2
 }
 
 // Passes over a party: its droppable rows are dropped.
 pub fn pass_over(owner: &mut [u16; 1024], plan: &[u16; 2304], rows: usize, party: usize)
-    requires rows_bound { (rows ≤ 1024) × (length owner.old ≡ 1024) }
+    requires rows_bound { rows ≤ 1024 }
     requires linked { Linked plan.now rows owner.old × (party < 1280) }
     ensures { owner.new ≡ pass_owners plan.now rows party owner.old }
 {
@@ -79,7 +80,7 @@ pub fn wanted(
     height: usize,
     held: usize,
 ) -> usize
-    requires rows_bound { (rows ≤ 1024) × (length owner.now ≡ 1024) }
+    requires rows_bound { rows ≤ 1024 }
     requires linked { Linked plan.now rows owner.now × (place < 1280) }
     ensures { result ≡ wanted_c (queued_c rows place owner.now) height held }
 {
@@ -93,7 +94,7 @@ pub fn wanted(
         if room <= count {
             return room;
         }
-        if numbers::wide16(owner[i]) == place {
+        if usize::from(owner[i]) == place {
             count += 1;
         }
         i = next_of(plan, i);
@@ -113,7 +114,6 @@ pub fn take_front(
     from: usize,
 ) -> Took
     requires rows_bound { (rows ≤ 1024) × (place < 256) }
-    requires owner_len { (length owner.old ≡ 1024) × (length taken.old ≡ 1024) }
     requires owner_bound { from + count_i live rows 0 owner.old ≤ rows }
     requires linked { Linked plan.now rows owner.old }
     ensures { TookIs (take_c place plan.now wanted rows 0 owner.old) from wanted taken.old owner.new taken.new result.got result.ints result.pops }
@@ -126,7 +126,7 @@ pub fn take_front(
         if wanted <= got {
             return Took { got, ints, pops };
         }
-        if numbers::wide16(owner[i]) == place {
+        if usize::from(owner[i]) == place {
             pops += 1;
             let k = plan[i];
             if k == 2 {

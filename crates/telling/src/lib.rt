@@ -20,26 +20,23 @@ pub fn keys(
     requires { TakesKeys n rows.now kind.now (length time.now) (length hash.now) (length lts.old) (length hashes.old) }
     ensures { Keyed n rows.now kind.now time.now hash.now lts.old hashes.old lts.new hashes.new result }
 {
-    let mut k: usize = 0;
     let mut w: usize = 0;
-    while k < n {
-        let row = numbers::wide16(rows[k]);
+    for k in 0..n {
+        let row = usize::from(rows[k]);
         let internal = kind[row] != 1;
         if internal {
-            let x: u64 = time[row];
-            lts[w] = x;
+            lts[w] = time[row];
             let h = rows::get_row(hash, row);
             rows::put_row(hashes, w, &h);
             w += 1;
         }
-        k += 1;
     }
     w
 }
 
 // The account of a party: the one at its place in the order, or the one in the group.
 fn account_of(accounts: &[u8; 16384], others: &[u8; 32768], party: usize) -> [u8; 32]
-    requires { (party < 1280) × (length accounts.now ≡ 16384) × (length others.now ≡ 32768) }
+    requires { party < 1280 }
     ensures { result ≡ party_row accounts.now others.now party }
 {
     if party < 256 {
@@ -57,14 +54,11 @@ pub fn join_set(
     set: &mut [u8; 16384],
     at: usize,
 )
-    requires takes_parties { TakesParties n joined.now at }
-    requires accounts_len { (length accounts.now ≡ 16384) × (length others.now ≡ 32768) × (length set.old ≡ 16384) }
+    requires { TakesParties n joined.now at }
     ensures { set.new ≡ laid_at (32 * at) (flat (accounts_at n joined.now accounts.now others.now)) set.old }
 {
-    let mut k: usize = 0;
-    while k < n {
-        let x = account_of(accounts, others, numbers::wide16(joined[k]));
+    for k in 0..n {
+        let x = account_of(accounts, others, usize::from(joined[k]));
         rows::put_row(set, at + k, &x);
-        k += 1;
     }
 }

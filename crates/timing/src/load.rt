@@ -28,11 +28,8 @@ pub fn full() -> Buffer
 {
     let made = Buffer::set_up(1024, 256);
     let mut buffer = made.buffer;
-    let mut i: u64 = 0;
-    while i < 1024 {
-        let added = buffer.add_message(message(i));
-        buffer = added.buffer;
-        i += 1;
+    for i in 0..1024 {
+        buffer = buffer.add_message(message(i)).buffer;
     }
     buffer
 }

@@ -3,7 +3,6 @@
 // what the last one left, messages in the buffer, and slots, accounts and messages in the group.
 #![tactic(auto)]
 
-ghost use Rattle.std.specs.Prelude.{◌≡◌, length};
 ghost use Rattle.lintelsong.specs.Closed.{GoodBuffer};
 ghost use Rattle.timing.specs.Fills.{GoodAnswer};
 
@@ -81,11 +80,9 @@ fn run(full: Buffer, asked: Asked, repeats: u64, lts: &mut [u64], hashes: &mut [
         dropped: 0,
     };
     let mut sums = with(none, last.collected, last.operations, last.dropped);
-    let mut left = repeats;
-    while 1 < left {
+    for _ in 1..repeats {
         last = fill(full, asked, lts, hashes);
         sums = with(sums, last.collected, last.operations, last.dropped);
-        left -= 1;
     }
     Told { sums, last }
 }
@@ -132,25 +129,13 @@ fn show(stdout: Stdout, r: Told) -> io::Result<()>
     show_left(stdout, left.messages, got.slots, got.accounts, got.messages)
 }
 
-// Room for the key list, one row a message.
-fn lt_room() -> [u64; 1024]
-    ensures { 1024 ≡ length result }
-{
-    [0u64; 1024]
-}
-
-fn hash_room() -> [u8; 32768]
-    ensures { 32768 ≡ length result }
-{
-    [0u8; 32768]
-}
-
 fn main(rt: HostRuntime) -> io::Result<()> {
     let mut line = [0u8; 4096];
     let n = reading::full(&mut rt.stdin(), &mut line)?;
     let w = wish::read(&line[..n]);
-    let mut lts = lt_room();
-    let mut hashes = hash_room();
+    // room for the key list, one row a message
+    let mut lts = [0u64; 1024];
+    let mut hashes = [0u8; 32768];
     let r = run(load::full(), asked_by(w), w.repeats, &mut lts, &mut hashes);
     show(rt.stdout(), r)
 }

@@ -1,5 +1,4 @@
 // The line that says what is to be timed: five numbers. A word that is missing or is no number reads as 0.
-use words::decimal::Number;
 use words::{cut, decimal};
 
 // What the line says.
@@ -14,25 +13,17 @@ pub struct Wish {
 
 // The number that a word stands for.
 fn value(word: &[u8]) -> u64 {
-    let Number::Value(v) = decimal::read(word) else {
-        return 0;
-    };
-    v
+    decimal::read(word).unwrap_or(0)
 }
 
 // The number of word k, from 0.
 fn nth(line: &[u8], k: usize) -> u64 {
     let mut at: usize = 0;
-    let mut i: usize = 0;
-    while i < k {
-        let passed = cut::word(line, at);
-        at = passed.to;
-        i += 1;
+    for _ in 0..k {
+        at = cut::word(line, at).to;
     }
     let word = cut::word(line, at);
-    let from = word.from;
-    let to = word.to;
-    value(&line[from..to])
+    value(&line[word.from..word.to])
 }
 
 // What a line without its LF says.

@@ -3,20 +3,19 @@
 use mathlib.Core.Path.{◌≡◌, refl, sym, ap, subst, ◌∙◌}
 use mathlib.Core.Logic.{⊎_elim, inl, inr}
 use mathlib.Core.List.{List, []}
-use Prim.Native.Nat.{ℕ, ◌*◌, ◌≤◌}
+use Prim.Native.Nat.{ℕ, ◌+◌, ◌*◌, ◌≤◌}
 use native.Mathlib.Omega.{arith}
 use lib.ListN.{length, set, replicate, length-replicate}
 use lib.Dec.{eqb}
 use mir.Syntax.{w64}
 use mir.Val.{Fits}
 use borrow.Author.Tests.{eqb-false}
+use Rattle.std.specs.Prelude.{Err}
 use Rattle.numbers.proofs.Bytes.{by_bool}
-use Rattle.columns.specs.Laid.{Copies}
 use Rattle.columns.proofs.Laid.{length_laid}
 use Rattle.index.specs.Names.{indexed_by}
-use Rattle.message.specs.declared.Code.{Code}
-use Rattle.message.specs.declared.Code.TheVariants.{Done, NoTransaction, InTransaction}
-use Rattle.message.specs.Answers.{number as number_of}
+use Rattle.message.specs.declared.Refusal.TheVariants.{NoTransaction, InTransaction}
+use Rattle.message.specs.Answers.{Code, Done, number as number_of}
 use Rattle.queues.specs.Cols.{Cols, number, with_numbers}
 use Rattle.queues.specs.Indexed.{indexed_c}
 use Rattle.queues.specs.Good.{Long, Good}
@@ -47,25 +46,25 @@ module _ {from to places_from places_to n a : ℕ} (h : Halves from to places_fr
   pub places_to_fits : Fits w64 (32 * places_to)
   places_to_fits = ⊎_elim (λ w. fits_32 (omega arith)) (λ w. fits_32 (omega arith)) h.places
 
-  pub copies_rows : {k size : ℕ} → k ≤ n → size ≡ 2048 → Copies from to k size
+  pub copies_rows : {k size : ℕ} → k ≤ n → size ≡ 2048 → (from + k ≤ size) × (to + k ≤ size)
   copies_rows few e =
       ⊎_elim
-      (λ w. record { source = omega arith; target = omega arith; ahead = λ l. omega arith })
-      (λ w. record { source = omega arith; target = omega arith; ahead = λ l. omega arith })
+      (λ w. (omega arith, omega arith))
+      (λ w. (omega arith, omega arith))
       h.rows
 
-  pub copies_bytes : {k size : ℕ} → k ≤ 32 * n → size ≡ 65536 → Copies (32 * from) (32 * to) k size
+  pub copies_bytes : {k size : ℕ} → k ≤ 32 * n → size ≡ 65536 → (32 * from + k ≤ size) × (32 * to + k ≤ size)
   copies_bytes few e =
       ⊎_elim
-      (λ w. record { source = omega arith; target = omega arith; ahead = λ l. omega arith })
-      (λ w. record { source = omega arith; target = omega arith; ahead = λ l. omega arith })
+      (λ w. (omega arith, omega arith))
+      (λ w. (omega arith, omega arith))
       h.rows
 
-  pub copies_accounts : {k size : ℕ} → k ≤ 32 * a → size ≡ 16384 → Copies (32 * places_from) (32 * places_to) k size
+  pub copies_accounts : {k size : ℕ} → k ≤ 32 * a → size ≡ 16384 → (32 * places_from + k ≤ size) × (32 * places_to + k ≤ size)
   copies_accounts few e =
       ⊎_elim
-      (λ w. record { source = omega arith; target = omega arith; ahead = λ l. omega arith })
-      (λ w. record { source = omega arith; target = omega arith; ahead = λ l. omega arith })
+      (λ w. (omega arith, omega arith))
+      (λ w. (omega arith, omega arith))
       h.places
 
 -- ---- a clearing keeps the lengths
@@ -129,14 +128,14 @@ module _ (c : Cols) (good : Good c) where
   pub rebuildable : (h b : Extent) (x y : Cols) → h ≡ held_of c.numbers → b ≡ kept_of c.numbers
       → (k : Code) → k ≡ end_code (number c 8) → number_of k ≡ 0
       → x ≡ cleared_c h.messages h.places (with_numbers [] c) → y ≡ copied_c 1024 0 256 0 b.messages b.places x
-      → (32 * number c 10 ≤ length y.accounts) × (number c 10 ≤ 256) × (length c.numbers ≡ 528)
+      → (32 * number c 10 ≤ length y.accounts) × (number c 10 ≤ 256)
   unfolding copied_c
   rebuildable h b x y e l k m d f g =
       let few = (kept_few b l k m d).1 in
       let long = (long_again h e x f).accounts in
       let same = ap (λ (w : Cols). length w.accounts) g ∙ length_copied (32 * 256) (32 * 0) (32 * b.places) x.accounts (omega arith) (omega arith) in
       let places = ap (λ (w : Extent). w.places) l in
-      (omega arith, omega arith, good.many)
+      (omega arith, omega arith)
 
 -- ---- the calls' answers
 
@@ -144,7 +143,7 @@ pub begin_refused : (c : Cols) (k : Code) → k ≡ begin_code (number c 8) → 
 unfolding begin_c
 begin_refused c k e d =
     let f = begun_already (number c 8) e d in
-    let code : k ≡ InTransaction = rw f at e in
+    let code : k ≡ Err InTransaction = rw f at e in
     rw f (ap (λ (x : Code). left x c) code)
 
 pub begin_done : (c x : Cols) (k : Code) (h : Extent) (ns : List ℕ) → k ≡ begin_code (number c 8) → number_of k ≡ 0 → h ≡ held_of c.numbers
@@ -161,7 +160,7 @@ pub rollback_refused : (c : Cols) (k : Code) → k ≡ end_code (number c 8) →
 unfolding rollback_c
 rollback_refused c k e d =
     let t = none_to_end (number c 8) e d in
-    let code : k ≡ NoTransaction = rw t at e in
+    let code : k ≡ Err NoTransaction = rw t at e in
     rw t (ap (λ (x : Code). left x c) code)
 
 pub rollback_done : (c x y : Cols) (k : Code) (h b : Extent) (ns : List ℕ) → k ≡ end_code (number c 8) → number_of k ≡ 0

@@ -38,13 +38,13 @@ fn copy_half(
 {
     let f = from.row;
     let t = to.row;
-    cells::copy_shorts(owner, f, t, n);
-    cells::copy_bytes(kind, f, t, n);
-    cells::copy_bytes(form, f, t, n);
-    cells::copy_words(time, f, t, n);
-    cells::copy_bytes(address, 32 * f, 32 * t, 32 * n);
-    cells::copy_bytes(hash, 32 * f, 32 * t, 32 * n);
-    cells::copy_bytes(accounts, 32 * from.place, 32 * to.place, 32 * a);
+    cells::copy(owner, f, t, n);
+    cells::copy(kind, f, t, n);
+    cells::copy(form, f, t, n);
+    cells::copy(time, f, t, n);
+    cells::copy(address, 32 * f, 32 * t, 32 * n);
+    cells::copy(hash, 32 * f, 32 * t, 32 * n);
+    cells::copy(accounts, 32 * from.place, 32 * to.place, 32 * a);
 }
 
 // Makes the rows of n messages and a accounts fresh.
@@ -63,13 +63,13 @@ fn clear_half(
     requires long { Long (cols owner.old kind.old form.old time.old address.old hash.old accounts.old []) }
     ensures { (cols owner.new kind.new form.new time.new address.new hash.new accounts.new []) ≡ cleared_c n a (cols owner.old kind.old form.old time.old address.old hash.old accounts.old []) }
 {
-    cells::clear_shorts(owner, 0, n);
-    cells::clear_bytes(kind, 0, n);
-    cells::clear_bytes(form, 0, n);
-    cells::clear_words(time, 0, n);
-    cells::clear_bytes(address, 0, 32 * n);
-    cells::clear_bytes(hash, 0, 32 * n);
-    cells::clear_bytes(accounts, 0, 32 * a);
+    cells::clear(owner, 0, n, 0);
+    cells::clear(kind, 0, n, 0);
+    cells::clear(form, 0, n, 0);
+    cells::clear(time, 0, n, 0);
+    cells::clear(address, 0, 32 * n, 0);
+    cells::clear(hash, 0, 32 * n, 0);
+    cells::clear(accounts, 0, 32 * a, 0);
 }
 
 // Copies what is held into the backup room.
@@ -86,42 +86,37 @@ pub fn begin(
     requires { Good (cols owner.old kind.old form.old time.old address.old hash.old accounts.old numbers.old) }
     ensures { left result (cols owner.new kind.new form.new time.new address.new hash.new accounts.new numbers.new) ≡ begin_c (cols owner.old kind.old form.old time.old address.old hash.old accounts.old numbers.old) }
 {
-    let code = keeping::may_begin(numbers);
-    if message::number_of(code) == 0 {
-        let held = keeping::held(numbers);
-        let n = held.messages;
-        let a = held.places;
-        copy_half(
-            Half { row: 0, place: 0 },
-            Half {
-                row: 1024,
-                place: 256,
-            },
-            n,
-            a,
-            owner,
-            kind,
-            form,
-            time,
-            address,
-            hash,
-            accounts,
-        );
-        keeping::keep(numbers);
-    }
-    code
+    keeping::may_begin(numbers)?;
+    let held = keeping::held(numbers);
+    let n = held.messages;
+    let a = held.places;
+    copy_half(
+        Half { row: 0, place: 0 },
+        Half {
+            row: 1024,
+            place: 256,
+        },
+        n,
+        a,
+        owner,
+        kind,
+        form,
+        time,
+        address,
+        hash,
+        accounts,
+    );
+    keeping::keep(numbers);
+    Ok(())
 }
 
 // Forgets what was held at begin.
 pub fn commit(numbers: &mut [u64; 528]) -> Code
-    requires { length numbers.old ≡ 528 }
     ensures { Commits result numbers.old numbers.new }
 {
-    let code = keeping::may_end(numbers);
-    if message::number_of(code) == 0 {
-        keeping::forget(numbers);
-    }
-    code
+    keeping::may_end(numbers)?;
+    keeping::forget(numbers);
+    Ok(())
 }
 
 // Copies back what was held at begin, into rows made fresh, and makes the index anew.
@@ -138,32 +133,30 @@ pub fn rollback(
     requires { Good (cols owner.old kind.old form.old time.old address.old hash.old accounts.old numbers.old) }
     ensures { left result (cols owner.new kind.new form.new time.new address.new hash.new accounts.new numbers.new) ≡ rollback_c (cols owner.old kind.old form.old time.old address.old hash.old accounts.old numbers.old) }
 {
-    let code = keeping::may_end(numbers);
-    if message::number_of(code) == 0 {
-        let held = keeping::held(numbers);
-        let n = held.messages;
-        let a = held.places;
-        clear_half(n, a, owner, kind, form, time, address, hash, accounts);
-        let kept = keeping::kept(numbers);
-        let back = kept.messages;
-        let places = kept.places;
-        copy_half(
-            Half {
-                row: 1024,
-                place: 256,
-            },
-            Half { row: 0, place: 0 },
-            back,
-            places,
-            owner,
-            kind,
-            form,
-            time,
-            address,
-            hash,
-            accounts,
-        );
-        keeping::give_back(accounts, numbers);
-    }
-    code
+    keeping::may_end(numbers)?;
+    let held = keeping::held(numbers);
+    let n = held.messages;
+    let a = held.places;
+    clear_half(n, a, owner, kind, form, time, address, hash, accounts);
+    let kept = keeping::kept(numbers);
+    let back = kept.messages;
+    let places = kept.places;
+    copy_half(
+        Half {
+            row: 1024,
+            place: 256,
+        },
+        Half { row: 0, place: 0 },
+        back,
+        places,
+        owner,
+        kind,
+        form,
+        time,
+        address,
+        hash,
+        accounts,
+    );
+    keeping::give_back(accounts, numbers);
+    Ok(())
 }

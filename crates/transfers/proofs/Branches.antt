@@ -8,7 +8,7 @@ use lib.ListN.{get_or, set}
 use borrow.Author.Tests.{ne_eqb, le-leb, lt-leb}
 use Rattle.moves.specs.declared.Tally.{Tally}
 use Rattle.moves.specs.declared.Fixed.{Fixed}
-use Rattle.moves.specs.Moves.{alone, tally, sum, Homes, homes, enter_homes, Store, store, move_store, took_store, take_c, Taking, TookIs, wanted_of, wanted_c, queued_c, held_at, with_homes}
+use Rattle.moves.specs.Moves.{alone, tally, costs, Homes, homes, enter_homes, Store, store, move_store, took_store, take_c, Taking, TookIs, wanted_of, wanted_c, queued_c, held_at, with_homes}
 use Rattle.moves.proofs.Alone.{alone_at, alone_set}
 
 pub grow_fits : (q height h k got : ℕ) → k ≡ wanted_c q height h → height ≤ 16 → h ≤ 16 → got ≤ k → h + got ≤ 16
@@ -29,11 +29,10 @@ module _ (class : List ℕ) (f : Fixed) (p j : ℕ) (s : Store) where
     k_is : wanted_of f p j s ≡ k
     k_is = sym (rw he at ke)
 
-    pub move_stop : k ≡ 0 → (r : ℕ) → r ≡ sum s.tally.ops 1
-        → store s.owner s.taken s.home s.member s.ints s.exts (tally s.tally.joined s.tally.accounts s.tally.taken r)
-        ≡ move_store class f p j s
+    pub move_stop : k ≡ 0 → {t : Tally} → t ≡ costs s.tally 1
+        → store s.owner s.taken s.home s.member s.ints s.exts t ≡ move_store class f p j s
     unfolding move_store
-    move_stop z r e = simp (lt-leb _ _ l, k_is ∙ z, e)
+    move_stop z e = simp (lt-leb _ _ l, k_is ∙ z, e)
 
     move_takes : (k ≡ 0 → ⊥) → move_store class f p j s ≡ took_store p j s (take_c p class k f.rows 0 s.owner)
     unfolding move_store
@@ -41,13 +40,13 @@ module _ (class : List ℕ) (f : Fixed) (p j : ℕ) (s : Store) where
 
     pub move_took : (k ≡ 0 → ⊥) → {os out : List ℕ} {got ints pops : ℕ} → TookIs (take_c p class k f.rows 0 s.owner) s.tally.taken k
         s.taken os out got ints pops
-        → (o o' : ℕ) → o ≡ sum s.tally.ops 1 → o' ≡ sum o (1 + pops)
+        → {u v : Tally} → u ≡ costs s.tally 1 → v ≡ costs u (1 + pops)
         → (is es : List ℕ) → is ≡ set s.ints j (get_or s.ints j 0 + ints) → es ≡ set s.exts j (get_or s.exts j 0 + (got - ints))
         → (hs ps : List ℕ) (r : Tally) → homes hs ps r ≡ enter_homes p j got (homes s.home s.member
-        (tally s.tally.joined s.tally.accounts (s.tally.taken + got) o'))
+        (tally v.joined v.accounts (s.tally.taken + got) v.ops))
         → store os out hs ps is es r ≡ move_store class f p j s
     unfolding took_store
-    move_took z {os} {out} {got} {ints} {pops} t o o' oe oe' is es ie ee hs ps r e =
+    move_took z {os} {out} {got} {ints} {pops} t ue ve is es ie ee hs ps r e =
         let T : Taking = take_c p class k f.rows 0 s.owner in
-        let e' = rw (oe', oe, t.pops_are, t.got_is) at e in
+        let e' = rw (ve, ue, t.pops_are, t.got_is) at e in
         rw (move_takes z, t.owners_are, t.out_is, ie, ee, t.ints_are, t.got_is) (ap (λ (x : Homes). with_homes s j T x) e')

@@ -39,24 +39,19 @@ pub fn move_to(
     }
     let holds = moves::held(record);
     let most = takes::wanted(owner, plan, fixed.rows, party, fixed.height, holds);
-    let ops = numbers::saturating_sum(tally.ops, 1);
+    let begun = tally.spend(1);
     if most == 0 {
-        let now = Tally {
-            joined: tally.joined,
-            accounts: tally.accounts,
-            taken: tally.taken,
-            ops,
+        return Moved {
+            record,
+            tally: begun,
         };
-        return Moved { record, tally: now };
     }
     let took = takes::take_front(owner, plan, fixed.rows, party, most, taken, tally.taken);
     let grown = moves::grow(record, took);
-    let spent = numbers::saturating_sum(ops, (1 + took.pops) as u64);
+    let spent = begun.spend((1 + took.pops) as u64);
     let now = Tally {
-        joined: tally.joined,
-        accounts: tally.accounts,
         taken: tally.taken + took.got,
-        ops: spent,
+        ..spent
     };
     let entered = moves::enter(home, member, party, slot, took.got, now);
     Moved {

@@ -12,6 +12,8 @@ use transfers::Moved;
 use walks::Walk;
 
 // The slot's own accounts, as listed when the visit began, until it is full. The roster leads from one to the next, past those of other slots.
+// stays: the loop goes from a member to the next of its chain, while the columns of members are lent on to each visit; an iterator over the chain
+// would need a type and contracts of its own for this one loop.
 fn own(
     owner: &mut [u16; 1024],
     plan: &[u16; 2304],
@@ -36,7 +38,7 @@ fn own(
     let mut now = tally;
     let mut next = rosters::first_in(roster, slot);
     while next < count {
-        let party = numbers::wide16(member[next]);
+        let party = usize::from(member[next]);
         let moved = !meeting::skips(mark[party]);
         let tried = meeting::attempt(
             owner, plan, taken, home, member, mark, cost, joined, record, fixed, party, slot, now,

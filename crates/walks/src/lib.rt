@@ -18,6 +18,7 @@ pub struct Walk {
 }
 
 // The walk for a new slot, from a place on, until the slot holds a message.
+// stays: `seek` and `reach` are two functions and no generic one, as the rules `seek_c` and `reach_c` are two definitions that theorems speak of.
 pub fn seek(
     owner: &mut [u16; 1024],
     plan: &[u16; 2304],
@@ -37,26 +38,24 @@ pub fn seek(
     requires slot_bound { slot < 64 }
     ensures { walk result.at (columns owner.new taken.new home.new member.new (alone slot result.record.ints) (alone slot result.record.exts) mark.new joined.new result.tally) ≡ seek_c plan.now cost.now fixed slot (fixed.places - from) from (columns owner.old taken.old home.old member.old (alone slot «record».ints) (alone slot «record».exts) mark.old joined.old tally) }
 {
-    let mut at = from;
     let mut record = record;
     let mut now = tally;
-    while at < fixed.places {
+    for at in from..fixed.places {
         let met = meeting::meet(
             owner, plan, taken, home, member, mark, cost, joined, record, fixed, at, slot, now,
         );
         record = met.record;
         now = met.tally;
-        at += 1;
         if moves::held(record) != 0 {
             return Walk {
-                at,
+                at: at + 1,
                 record,
                 tally: now,
             };
         }
     }
     Walk {
-        at,
+        at: from.max(fixed.places),
         record,
         tally: now,
     }
@@ -82,27 +81,25 @@ pub fn reach(
     requires slot_bound { slot < 64 }
     ensures { walk result.at (columns owner.new taken.new home.new member.new (alone slot result.record.ints) (alone slot result.record.exts) mark.new joined.new result.tally) ≡ reach_c plan.now cost.now fixed slot (fixed.places - from) from (columns owner.old taken.old home.old member.old (alone slot «record».ints) (alone slot «record».exts) mark.old joined.old tally) }
 {
-    let mut at = from;
     let mut record = record;
     let mut now = tally;
-    while at < fixed.places {
+    for at in from..fixed.places {
         let moved = meeting::moving(home, mark, at);
         let met = meeting::meet(
             owner, plan, taken, home, member, mark, cost, joined, record, fixed, at, slot, now,
         );
         record = met.record;
         now = met.tally;
-        at += 1;
         if meeting::stops(moved, record, fixed.height) {
             return Walk {
-                at,
+                at: at + 1,
                 record,
                 tally: now,
             };
         }
     }
     Walk {
-        at,
+        at: from.max(fixed.places),
         record,
         tally: now,
     }

@@ -11,7 +11,7 @@ use lib.Seq.{drop_at}
 use borrow.Author.Tests.{lt-ltb, le-leb, ltb-true, ltb-false}
 use Rattle.numbers.proofs.Bytes.{by_bool}
 use Rattle.words.specs.Digits.{value_from, value_of, spelled, digits_only, is_number, number_of, places_in, places, decimal, name_of, number_in}
-use Rattle.words.specs.declared.decimal.Number.TheVariants.{Value}
+use Rattle.std.proofs.Common.{Some}
 use Rattle.words.proofs.Placing.{places_low, one_place, one_more}
 
 module _ (base nought : ℕ) where
@@ -56,7 +56,7 @@ length_spelled base nought zero n behind = sym (zero-add _)
 length_spelled base nought (suc k) n behind = length_spelled base nought k (n / base) _ ∙ omega arith
 
 -- "decimal digits written" are read as the number that was written
-pub decimal_back : (n : ℕ) → n < 2 ^ 64 → number_of (decimal n) ≡ Value n
+pub decimal_back : (n : ℕ) → n < 2 ^ 64 → number_of (decimal n) ≡ Some n
 unfolding number_of is_number value_of decimal places digits_only
 decimal_back n h =
     let small : n < 10 ^ places_in 19 n = enough 19 n (omega arith) in

@@ -1,13 +1,12 @@
--- Digits one by one: a loop that writes them from the last to the first, and one that sums them up. Assumes nothing.
-use mathlib.Core.Path.{◌≡◌, refl, ap, ◌∙◌}
+-- Digits one by one: a loop that writes them from the last to the first. Assumes nothing.
+use mathlib.Core.Path.{◌≡◌, ap, ◌∙◌}
 use mathlib.Core.List.{List, [], ◌∷◌}
-use Prim.Native.Nat.{ℕ, suc, ◌+◌, ◌-◌, ◌*◌, ◌/◌, ◌%◌, ◌≤◌, ◌<◌}
+use Prim.Native.Nat.{ℕ, suc, ◌+◌, ◌-◌, ◌/◌, ◌%◌, ◌≤◌, ◌<◌}
 use native.Mathlib.Nat.{sub-zero, le_antisymm}
-use native.Mathlib.Numerals.{add-one}
 use native.Mathlib.Omega.{arith}
-use lib.ListN.{length, get_or, take, drop, set, length-set, drop_of_length-le}
-use lib.Seq.{length-take-le, set_split, drop_at, drop-cons, take-set-lt}
-use Rattle.words.specs.Digits.{value_from, spelled}
+use lib.ListN.{length, take, drop, set, length-set, drop_of_length-le}
+use lib.Seq.{length-take-le, set_split, drop_at, take-set-lt}
+use Rattle.words.specs.Digits.{spelled}
 
 -- a cell that was just written stands in front of what lies behind it
 drop_set_here : (l : List ℕ) (j x : ℕ) → j < length l → drop j (set l j x) ≡ x ∷ drop (suc j) l
@@ -52,22 +51,6 @@ module _ (base nought : ℕ) where
         let e : i ≡ count = le_antisymm v.within h in
         let none : count - i ≡ 0 = omega arith in
         rw (none, e) at v.same
-
-  -- the digits of a row are summed up from the front; those from i on are left
-  pub record Summing (row : List ℕ) (first v i : ℕ) : Type 0 where
-    pub same : value_from base nought v (drop i row) ≡ value_from base nought 0 (drop first row)
-
-  pub sum_start : (row : List ℕ) (first : ℕ) → Summing row first 0 first
-  sum_start row first = record { same = refl }
-
-  module _ {row : List ℕ} {first v i : ℕ} (s : Summing row first v i) where
-    pub sum_step : i < length row → Summing row first (v * base + (get_or row i 0 - nought)) (i + 1)
-    unfolding value_from
-    sum_step l = record { same = rw add-one (rw (drop-cons row i 0 l) at s.same) }
-
-    pub sum_end : length row ≤ i → v ≡ value_from base nought 0 (drop first row)
-    unfolding value_from
-    sum_end l = rw (drop_of_length-le row l) at s.same
 
 -- the same at the start of a longer row
 pub spell_front : (base nought : ℕ) {n k rest i : ℕ} (out : List ℕ) → Spelling base nought n k k rest i (take k out) → i < k

@@ -1,18 +1,13 @@
--- A loop that passes over the bytes of a line that a test lets pass, and one that compares two rows of bytes. Each keeps what is left equal
--- to what was asked. Assumes nothing.
+-- A loop that passes over the bytes of a line that a test lets pass. It keeps what is left equal to what was asked. Assumes nothing.
 use mathlib.Core.Path.{◌≡◌, refl, sym, ap, ◌∙◌}
-use mathlib.Core.Bool.{Bool, true, false, cond, ◌&&◌}
+use mathlib.Core.Bool.{Bool, true, false, cond}
 use mathlib.Core.List.{List}
 use Prim.Native.Nat.{ℕ, suc, ◌+◌, ◌≤◌, ◌<◌, min}
 use native.Mathlib.Numerals.{add-one}
 use native.Mathlib.Nat.{min-eq_left, min-eq_right, add-zero}
 use native.Mathlib.Omega.{arith}
-use lib.Dec.{eqb}
 use lib.ListN.{length, get_or, drop, drop_of_length-le}
 use lib.Seq.{drop-cons}
-use borrow.Author.Tests.{eq-eqb, ne_eqb}
-use Rattle.numbers.specs.Bytes.{eq_l}
-use Rattle.numbers.proofs.Bytes.{by_bool, eq_l_true}
 use Rattle.words.specs.Cut.{leading, Leads}
 
 module _ (test : ℕ → Bool) (from : ℕ) (s : List ℕ) where
@@ -47,29 +42,3 @@ module _ (test : ℕ → Bool) (from : ℕ) (s : List ℕ) where
     pass_end l =
         let now : min i (length s) ≡ length s = min-eq_right l in
         record { exactly = sym (v.same ∙ rw (now, drop_of_length-le s l, add-zero)); onward = omega arith; within = omega arith }
-
-module _ (a b : List ℕ) where
-  pub record Comparing (i : ℕ) : Type 0 where
-    pub same : eq_l a b ≡ eq_l (drop i a) (drop i b)
-
-  pub compare_start : Comparing 0
-  compare_start = record { same = refl }
-
-  module _ (long : length a ≡ length b) {i : ℕ} (v : Comparing i) where
-    next : i < length a → eq_l (drop i a) (drop i b) ≡ eqb (get_or a i 0) (get_or b i 0) && eq_l (drop (suc i) a) (drop (suc i) b)
-    unfolding eq_l
-    next l = rw (drop-cons a i 0 l, drop-cons b i 0 (omega arith))
-
-    pub compare_step : i < length a → get_or a i 0 ≡ get_or b i 0 → Comparing (i + 1)
-    compare_step l e = record { same = v.same ∙ next l ∙ rw (eq-eqb _ _ e, add-one) }
-
-    pub compare_differs : i < length a → (get_or a i 0 ≡ get_or b i 0 → ⊥) → false ≡ eq_l a b
-    compare_differs l e = sym (v.same ∙ next l ∙ rw (ne_eqb _ _ e))
-
-    pub compare_end : length a ≤ i → true ≡ eq_l a b
-    unfolding eq_l
-    compare_end l = sym (v.same ∙ rw (drop_of_length-le a l, drop_of_length-le b {i = i} (omega arith)))
-
--- rows of two lengths differ
-pub unlike : (a b : List ℕ) → (length a ≡ length b → ⊥) → false ≡ eq_l a b
-unlike a b d = by_bool (eq_l a b) (λ t. absurd (d (ap length (eq_l_true a b t)))) (λ f. sym f)

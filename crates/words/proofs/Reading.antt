@@ -11,12 +11,11 @@ use lib.Seq.{drop-cons}
 use borrow.Author.Tests.{lt-ltb, le-ltb, leb-true}
 use Rattle.numbers.proofs.Bytes.{by_bool, clash}
 use Rattle.words.specs.Digits.{value_from, value_of, is_digit, digits_only, is_number, number_of}
-use Rattle.words.specs.declared.decimal.Number.{Number}
-use Rattle.words.specs.declared.decimal.Number.TheVariants.{Value, Nothing}
+use Rattle.std.proofs.Common.{Option, Some, None}
 
 -- what the bytes s make of digits of the value v in front
-unfoldable pub read_from : ℕ → List ℕ → Number
-read_from v s = cond (digits_only s && ltb (value_from 10 48 v s) (2 ^ 64)) (Value (value_from 10 48 v s)) Nothing
+unfoldable pub read_from : ℕ → List ℕ → Option ℕ
+read_from v s = cond (digits_only s && ltb (value_from 10 48 v s) (2 ^ 64)) (Some (value_from 10 48 v s)) None
 
 and_false : (b : Bool) → b && false ≡ false
 and_false true = refl
@@ -40,7 +39,7 @@ module _ (word : List ℕ) where
     pub small : v < 2 ^ 64
     pub same : read_from v (drop i word) ≡ number_of word
 
-  pub read_none : length word ≡ 0 → Nothing ≡ number_of word
+  pub read_none : length word ≡ 0 → None ≡ number_of word
   unfolding number_of is_number
   read_none e = rw (le-ltb 0 (length word) (omega arith))
 
@@ -56,11 +55,11 @@ module _ (word : List ℕ) where
     unfolding byte
     next = rw (drop-cons word i 0 l) at r.same
 
-    pub read_other : is_digit (get_or word i 0) ≡ false → Nothing ≡ number_of word
+    pub read_other : is_digit (get_or word i 0) ≡ false → None ≡ number_of word
     unfolding read_from digits_only byte
     read_other e = rw e at next
 
-    pub read_large : 2 ^ 64 ≤ v * 10 + (get_or word i 0 - 48) → Nothing ≡ number_of word
+    pub read_large : 2 ^ 64 ≤ v * 10 + (get_or word i 0 - 48) → None ≡ number_of word
     unfolding read_from value_from byte
     read_large h =
         let large : 2 ^ 64 ≤ value_from 10 48 (v * 10 + (get_or word i 0 - 48)) (drop (suc i) word) = omega (arith, grows (v * 10 + (get_or word i 0 - 48)) (drop (suc i) word)) in
@@ -70,6 +69,6 @@ module _ (word : List ℕ) where
     unfolding read_from value_from digits_only byte
     read_step e h = record { small = h; same = rw add-one (rw e at next) }
 
-  pub read_end : {v i : ℕ} → Reading v i → length word ≤ i → Value v ≡ number_of word
+  pub read_end : {v i : ℕ} → Reading v i → length word ≤ i → Some v ≡ number_of word
   unfolding read_from value_from digits_only
   read_end {v} r l = rw (lt-ltb v (2 ^ 64) r.small) at (rw (drop_of_length-le word l) at r.same)

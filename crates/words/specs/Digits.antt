@@ -1,7 +1,5 @@
 -- Rows of digits: their value, the digits of a number, and what a word and a name of 32 bytes stand for. Assumes nothing.
-use Rattle.std.specs.Prelude.{◌≡◌, Bool, true, cond, ◌&&◌, List, [], ◌∷◌, ◌++◌, ℕ, zero, suc, ◌+◌, ◌-◌, ◌*◌, ◌/◌, ◌%◌, ◌^◌, ◌≤◌, ltb, leb, length, take, drop, replicate}
-use Rattle.words.specs.declared.decimal.Number.{Number}
-use Rattle.words.specs.declared.decimal.Number.TheVariants.{Value, Nothing}
+use Rattle.std.specs.Prelude.{◌≡◌, Bool, true, cond, ◌&&◌, List, [], ◌∷◌, ◌++◌, ℕ, zero, suc, ◌+◌, ◌-◌, ◌*◌, ◌/◌, ◌%◌, ◌^◌, ◌≤◌, Option, Some, None, ltb, leb, length, take, drop, replicate}
 
 module _ (base nought : ℕ) where
   -- the value of a row of digits behind digits of the value v; `nought` is the byte of the digit 0
@@ -30,8 +28,8 @@ value_of word = value_from 10 48 0 word
 unfoldable pub is_number : List ℕ → Bool
 is_number word = ltb 0 (length word) && (digits_only word && ltb (value_of word) (2 ^ 64))
 
-unfoldable pub number_of : List ℕ → Number
-number_of word = cond (is_number word) (Value (value_of word)) Nothing
+unfoldable pub number_of : List ℕ → Option ℕ
+number_of word = cond (is_number word) (Some (value_of word)) None
 
 -- one, and one more for each time that n can be divided by ten, k times at the most
 unfoldable pub places_in : ℕ → ℕ → ℕ

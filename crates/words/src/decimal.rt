@@ -1,43 +1,22 @@
 // Decimal numbers: a word read, and a number's digits written.
 ghost use Rattle.std.specs.Prelude.{◌≡◌, [], ◌≤◌, length, take};
-ghost use Rattle.words.specs.Digits.{is_digit, number_of, spelled, places as places_of, Written};
-
-// A word read as a number.
-#[derive(Clone, Copy)]
-pub enum Number {
-    Value(u64),
-    Nothing,
-}
-
-// Whether a byte is a digit.
-fn is_digit(b: u8) -> bool
-    ensures { result ≡ is_digit b }
-{
-    48 <= b && b <= 57
-}
+ghost use Rattle.words.specs.Digits.{number_of, spelled, places as places_of, Written};
 
 // The number that a word stands for: one or more digits, zeros in front allowed, with a value of at most 2^64 - 1. Any other word is none.
-pub fn read(word: &[u8]) -> Number
+pub fn read(word: &[u8]) -> Option<u64>
     ensures { result ≡ number_of word.now }
 {
-    if word.len() == 0 {
-        return Number::Nothing;
+    if word.is_empty() {
+        return None;
     }
     let mut value: u64 = 0;
-    let mut at: usize = 0;
-    while at < word.len() {
-        let b = word[at];
-        if !is_digit(b) {
-            return Number::Nothing;
+    for &b in word {
+        if !b.is_ascii_digit() {
+            return None;
         }
-        let digit = (b - 48) as u64;
-        if (u64::MAX - digit) / 10 < value {
-            return Number::Nothing;
-        }
-        value = value * 10 + digit;
-        at += 1;
+        value = value.checked_mul(10)?.checked_add(u64::from(b - b'0'))?;
     }
-    Number::Value(value)
+    Some(value)
 }
 
 // How many digits n has.
@@ -46,6 +25,7 @@ fn places(n: u64) -> usize
 {
     let mut k: usize = 1;
     let mut rest = n;
+    // stays: no plainer as a `for`: no index is counted, the number is divided until one digit is left
     while 10 <= rest {
         rest /= 10;
         k += 1;
@@ -59,11 +39,9 @@ fn spell(n: u64, k: usize, out: &mut [u8])
     ensures { take k out.new ≡ spelled 10 48 k n [] }
 {
     let mut rest = n;
-    let mut i: usize = 0;
-    while i < k {
-        out[k - 1 - i] = 48 + (rest % 10) as u8;
+    for i in (0..k).rev() {
+        out[i] = b'0' + (rest % 10) as u8;
         rest /= 10;
-        i += 1;
     }
 }
 

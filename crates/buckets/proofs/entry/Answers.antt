@@ -10,4 +10,4 @@ unfolding bucket_of
 returns c =
     let p = c.requires in
     let k = c.args.k in
-    sym (cell_at c.args.buckets c.args.c k 0 p.2) ∙ entry_of (p.0.each c.args.c p.1) k 0 p.2
+    sym (cell_at c.args.buckets.now c.args.c k 0 p.2) ∙ entry_of (p.0.each c.args.c p.1) k 0 p.2

@@ -1,26 +1,19 @@
--- `buckets::listed` meets its contract: the cells passed hold entries, so what is left is counted (proofs/Entries.antt). Assumes nothing.
-use native.Mathlib.Omega.{arith}
-use Rattle.buckets.specs.Cells.{bucket_of}
-use Rattle.buckets.proofs.Cells.{length_cells, cell_at}
-use Rattle.buckets.proofs.Entries.{count_start, count_step, count_found, count_end}
+-- `buckets::listed` meets its contract: the entries of a bucket are what stands before its first mark (proofs/Entries.antt). Assumes nothing.
+use Rattle.std.proofs.Common.{rules, tests, arith, ◌≡◌, ◌∙◌, ap, ℕ, ◌+◌, ◌-◌, ◌*◌, not, ltb, take, drop, Option}
+use Rattle.std.proofs.lemmas.Iterator.{YieldsList-from_slice}
+use Rattle.std.proofs.lemmas.Iterator.Search.{position_from_yields_List}
+use Rattle.std.specs.Prelude.{position}
+use Rattle.std.specs.Option.{unwrap_or}
+use Rattle.buckets.specs.Cells.{mark, bucket_of, cells_of}
+use Rattle.buckets.proofs.Cells.{length_cells}
+use Rattle.buckets.proofs.Entries.{first_mark}
 use Rattle.buckets.proofs.listed.Goals as goal
 
-pub loop-k-init : goal.loop-k-init
-loop-k-init c = count_start _
-
-pub returns-then-buckets-base-ge-NONE : goal.returns-then-buckets-base-ge-NONE
-unfolding bucket_of
-returns-then-buckets-base-ge-NONE c =
-    let l = c.loop-k-test.true in
-    let e = cell_at c.args.buckets.now c.args.c c.loop-k.k 0 l in
-    count_found c.loop-k.invariant (length_cells c.args.buckets.now c.args.c c.requires.0 c.requires.1) l (omega (arith, e, c.if-buckets-base-ge-NONE.true))
-
-pub loop-k-preserved : goal.loop-k-preserved
-loop-k-preserved c =
-    let l = c.loop-k-test.true in
-    let e = cell_at c.args.buckets.now c.args.c c.loop-k.k 0 l in
-    count_step c.loop-k.invariant (length_cells c.args.buckets.now c.args.c c.requires.0 c.requires.1) l (omega (arith, e, c.if-buckets-base-ge-NONE.false))
-
 pub returns : goal.returns
-unfolding bucket_of
-returns c = count_end c.loop-k.invariant (length_cells c.args.buckets.now c.args.c c.requires.0 c.requires.1) c.loop-k-test.false
+unfolding bucket_of cells_of
+returns c =
+    let now = c.args.buckets.now in
+    let k = c.args.c in
+    let e : c.position.result ≡ position (λ (x : ℕ). not (ltb x mark)) (take (64 * k + 64 - 64 * k) (drop (64 * k) now)) = position_from_yields_List (λ (x : ℕ). not (ltb x mark)) _ _ c.position.result c.position.ensures.ran (YieldsList-from_slice _ c.iter.ensures.rest) (λ x b q h. search (rules, tests)) in
+    let long : 64 * k + 64 - 64 * k ≡ 64 = omega arith in
+    c.unwrap_or.ensures ∙ ap (λ (o : Option ℕ). unwrap_or o 64) (rw long at e) ∙ first_mark (cells_of now k) (length_cells now k c.told-buckets c.requires)

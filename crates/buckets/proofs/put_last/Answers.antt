@@ -5,5 +5,4 @@ use Rattle.buckets.proofs.Single.{put_leaves}
 use Rattle.buckets.proofs.put_last.Goals as goal
 
 pub returns : goal.returns
-returns c =
-    put_leaves c.requires (omega (arith, c.struct_known-1.given)) c.listed-k.ensures
+returns c = rw c.from.ensures (put_leaves c.requires (omega (arith, c.from.ensures)) c.listed-k.ensures)

@@ -5,4 +5,4 @@ use Rattle.clearing.proofs.clear_messages.Goals as goal
 pub returns : goal.returns
 returns c =
     let p = c.requires in
-    (cleared p.0 _ c.clear_shorts.ensures, cleared p.1 _ c.clear_bytes.ensures, cleared p.2 _ c.clear_bytes-2.ensures, cleared p.3 _ c.clear_words.ensures)
+    (cleared p.0 _ c.clear.ensures, cleared p.1 _ c.clear-2.ensures, cleared p.2 _ c.clear-3.ensures, cleared p.3 _ c.clear-4.ensures)

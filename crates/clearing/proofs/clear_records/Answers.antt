@@ -5,4 +5,4 @@ use Rattle.clearing.proofs.clear_records.Goals as goal
 pub returns : goal.returns
 returns c =
     let p = c.requires in
-    (cleared p.0 _ c.clear_bytes.ensures, cleared p.1 _ c.clear_bytes-2.ensures)
+    (cleared p.0 _ c.clear.ensures, cleared p.1 _ c.clear-2.ensures)

@@ -1,4 +1,4 @@
--- What the loop of `collect_owners` keeps, and what falls with each turn. See Answers.antt.
+-- What the loop of `collect_owners` keeps. See Answers.antt.
 use Prim.Native.Nat.{◌-◌}
 use lib.ListN.{get_or}
 use Rattle.settle.proofs.Copying.{Cells}
@@ -6,6 +6,3 @@ use Rattle.collecting.proofs.collect_owners.Given as goal
 
 abbrev pub invariant-loop-k : goal.invariant-loop-k
 invariant-loop-k l = Cells (λ j. get_or l.seat (get_or l.owner (get_or l.rows j 0) 0 - 2048) 0) 0 l.n l.at l.initial.to l.to l.k
-
-abbrev pub decreases-loop-k : goal.decreases-loop-k
-decreases-loop-k l = l.n - l.k

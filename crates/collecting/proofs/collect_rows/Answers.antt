@@ -1,7 +1,6 @@
 -- `collecting::collect_rows` meets its contract: the rows copied so far lie over the column (crate settle, Copying, `RowsDone`). Assumes
 -- nothing.
 use mathlib.Core.Path.{ap, ◌∙◌}
-use Prim.Native.Nat.{◌-◌}
 use native.Mathlib.Omega.{arith}
 use lib.ListN.{length}
 use Rattle.columns.specs.Rows.{row_at}
@@ -14,12 +13,12 @@ loop-k-init c = rows_start _ _ _ _ _
 
 pub get_row-x-requires : goal.get_row-x-requires
 get_row-x-requires c =
-    omega (arith, c.wide16.ensures.0, c.requires.there c.loop-k.k c.loop-k-test.true)
+    omega (arith, c.from.ensures, c.requires.there c.loop-k.k c.loop-k-test.true)
 
 pub loop-k-preserved : goal.loop-k-preserved
 loop-k-preserved c =
     let l = c.loop-k-test.true in
-    let x = c.get_row-x.ensures ∙ ap (row_at c.args.from.now) c.wide16.ensures.0 in
+    let x = c.get_row-x.ensures ∙ ap (row_at c.args.from.now) c.from.ensures in
     rw c.put_row.ensures
     (rows_step _ _ _ _ _ c.loop-k.invariant l c.requires.fits _ x (ap length x ∙ length_row c.args.from.now _ (c.requires.there c.loop-k.k l)))
 

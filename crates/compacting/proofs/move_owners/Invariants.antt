@@ -1,11 +1,7 @@
--- What the loop of `move_owners` keeps, and what falls with each turn. See Answers.antt.
-use Prim.Native.Nat.{◌-◌}
+-- What the loop of `move_owners` keeps. See Answers.antt.
 use Rattle.queues.specs.Compact.{new_place}
 use Rattle.owners.proofs.Passing.{Passing}
 use Rattle.compacting.proofs.move_owners.Given as goal
 
-abbrev pub invariant-loop-i : goal.invariant-loop-i
-invariant-loop-i l = Passing (new_place l.seats) l.n l.initial.owner l.owner l.i
-
-abbrev pub decreases-loop-i : goal.decreases-loop-i
-decreases-loop-i l = l.n - l.i
+abbrev pub invariant-loop-o : goal.invariant-loop-o
+invariant-loop-o l = Passing (new_place l.seats) l.n l.initial.o-items l.o-items l.o-index

@@ -1,6 +1,5 @@
--- What the loop of `sweep` keeps, and what falls with each turn. See Answers.antt.
+-- What the loop of `sweep` keeps. See Answers.antt.
 use mathlib.Core.Path.{◌≡◌}
-use Prim.Native.Nat.{◌≤◌, ◌-◌}
 use lib.ListN.{length}
 use Rattle.columns.proofs.Scans.{scan}
 use Rattle.meaning.specs.Passes.{sweep_owners, sweep_cell}
@@ -8,7 +7,4 @@ use Rattle.ending.proofs.sweep.Given as goal
 
 abbrev pub invariant-loop-i : goal.invariant-loop-i
 invariant-loop-i l =
-    (l.i ≤ l.rows) × (length l.owner ≡ 1024) × (scan (sweep_cell l.plan l.from l.to) l.rows l.i l.owner ≡ sweep_owners l.plan l.rows l.from l.to l.initial.owner)
-
-abbrev pub decreases-loop-i : goal.decreases-loop-i
-decreases-loop-i l = l.rows - l.i
+    (length l.owner ≡ 1024) × (scan (sweep_cell l.plan l.from l.to) l.rows l.i l.owner ≡ sweep_owners l.plan l.rows l.from l.to l.initial.owner)

@@ -1,7 +1,6 @@
 -- `entry::house` meets its contract: what the rest of the loop makes of the column is what the whole makes of it (proofs/Tables.antt).
 -- Assumes nothing.
 use native.Mathlib.Omega.{arith}
-use Prim.Native.Nat.{◌-◌}
 use Rattle.entry.proofs.Tables.{house_start, house_step, house_end}
 use Rattle.entry.proofs.house.Goals as goal
 
@@ -10,10 +9,10 @@ loop-g-init c = house_start _ _ _ _
 
 pub bounds-home-party : goal.bounds-home-party
 bounds-home-party c =
-    omega (arith, c.requires.by_index c.loop-g.g c.loop-g-test.true, c.wide16-party.ensures.0)
+    omega (arith, c.requires.by_index c.loop-g.g (omega arith), c.from-party.ensures)
 
 pub loop-g-preserved : goal.loop-g-preserved
-loop-g-preserved c = house_step c.loop-g.invariant c.loop-g-test.true _ c.wide16-party.ensures.0
+loop-g-preserved c = house_step c.loop-g.invariant (omega arith) _ c.from-party.ensures
 
 pub returns : goal.returns
-returns c = house_end c.loop-g.invariant c.loop-g-test.false
+returns c = house_end c.loop-g.invariant (omega arith)

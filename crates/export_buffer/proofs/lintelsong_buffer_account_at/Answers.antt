@@ -1,6 +1,5 @@
 -- `lintelsong_buffer_account_at` meets its contract: the account found in the columns is that of the order. Assumes nothing.
 use mathlib.Core.Path.{refl, subst}
-use Rattle.message.specs.declared.SeenAccount.{SeenAccount}
 use Rattle.buffer_seen.proofs.Looks.{account_seen}
 use Rattle.export_parts.specs.Parts.{Told}
 use Rattle.export_buffer.specs.Held.{cols_of}
@@ -8,6 +7,6 @@ use Rattle.export_buffer.proofs.lintelsong_buffer_account_at.Goals as goal
 
 pub returns : goal.returns
 returns c = (
-  subst (λ (s : SeenAccount). Told c.account_at.result c.account_at.new.out s) (account_seen (cols_of c.args.b.now) c.args.place) c.account_at.ensures,
+  subst (Told c.account_at.result c.account_at.new.out) (account_seen (cols_of c.args.b.now) c.args.place) c.account_at.ensures,
   refl,
 )

@@ -1,4 +1,4 @@
--- `filling::fill` meets its contract: the columns of the three values are lent to the fill (crate fills) and put together again. Assumes nothing.
+-- `filling::fill` meets its contract: the columns of the three values are lent to the fill (crate fills). Assumes nothing.
 use Rattle.filling.proofs.fill.Goals as goal
 
 pub fill-a-requires : goal.fill-a-requires

@@ -4,8 +4,5 @@ use Rattle.group_seen.proofs.Looks.{bucket_seen}
 use Rattle.groups.specs.Groups.{table_of}
 use Rattle.group_walks.proofs.bucket_at.Goals as goal
 
-pub bucket_at-requires : goal.bucket_at-requires
-bucket_at-requires c = let t = table_of c.args.group in c.requires.buckets
-
 pub returns : goal.returns
 returns c = c.bucket_at.ensures ∙ bucket_seen (table_of c.args.group) c.requires c.args.count c.args.k

@@ -4,7 +4,6 @@ use borrow.Author.Tests.{eq-eqb, ne_eqb}
 use native.Mathlib.Omega.{arith}
 use mathlib.Core.Bool.{not}
 use mathlib.Core.Path.{ap}
-use Prim.Native.Nat.{◌-◌}
 use Rattle.leaving.proofs.Seating.{seat_start, seat_end, seat_stays, seat_goes}
 use Rattle.holders.proofs.seat_held.Goals as goal
 use Rattle.holders.proofs.seat_held.Goals.{else-held-p-eq1, then-held-p-eq1}

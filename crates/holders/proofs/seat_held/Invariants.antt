@@ -1,6 +1,5 @@
--- What the loop of `seat_held` keeps, and what falls with each turn. See Answers.antt.
+-- What the loop of `seat_held` keeps. See Answers.antt.
 use mathlib.Core.Bool.{not}
-use Prim.Native.Nat.{◌-◌}
 use lib.Dec.{eqb}
 use lib.ListN.{get_or}
 use Rattle.leaving.proofs.Seating.{Seating}
@@ -8,6 +7,3 @@ use Rattle.holders.proofs.seat_held.Given as goal
 
 abbrev pub invariant-loop-p : goal.invariant-loop-p
 invariant-loop-p l = Seating (λ q. not (eqb (get_or l.held q 0) 1)) l.a l.initial.seats l.seats l.p l.w
-
-abbrev pub decreases-loop-p : goal.decreases-loop-p
-decreases-loop-p l = l.a - l.p

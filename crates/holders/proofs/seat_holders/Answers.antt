@@ -6,13 +6,8 @@ use Prim.Native.Nat.{ℕ}
 use native.Mathlib.Omega.{arith}
 use lib.Dec.{eqb}
 use lib.ListN.{length, get_or, replicate, length-replicate, get_or-replicate}
-use Rattle.holders.proofs.Seats.{length_held_by, goes_is, seated_same}
+use Rattle.holders.proofs.Seats.{goes_is, seated_same}
 use Rattle.holders.proofs.seat_holders.Goals as goal
-
-pub seat_held-requires : goal.seat_held-requires
-seat_held-requires c =
-    let p = c.requires in
-    (p.1, ap length c.mark_holders.ensures ∙ length_held_by _ _ _, p.3)
 
 pub returns : goal.returns
 returns c =
@@ -20,5 +15,5 @@ returns c =
     let held = c.mark_holders.ensures in
     seated_same _ _ _ _ _ _
     (λ p l. ap (λ (h : List ℕ). not (eqb (get_or h p 0) 1)) held
-    ∙ goes_is a.owner.now (replicate 256 0) p (omega (arith, length-replicate {A = ℕ} 256 0, c.requires.1)) (omega (arith, c.requires.1)) (get_or-replicate 256 p 0 0 (omega (arith, c.requires.1))) a.n (omega (arith, c.requires.0, c.requires.2)))
+    ∙ goes_is a.owner.now (replicate 256 0) p (omega (arith, length-replicate {A = ℕ} 256 0)) (omega arith) (get_or-replicate 256 p 0 0 (omega arith)) a.n (omega arith))
     c.seat_held.ensures

@@ -8,4 +8,4 @@ use Rattle.index.proofs.enter.Goals as goal
 pub returns : goal.returns
 returns c =
     let a = c.args in
-    c.link.ensures ∙ ap (λ (h : ℕ). with_index (linked_c h a.place (drop 16 a.numbers.now)) a.numbers.now) c.wide8.ensures.0
+    c.link.ensures ∙ ap (λ (h : ℕ). with_index (linked_c h a.place (drop 16 a.numbers.now)) a.numbers.now) c.from.ensures

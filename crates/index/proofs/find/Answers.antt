@@ -5,8 +5,7 @@ use Rattle.index.proofs.Searching.{search_start, search_step, search_lower, sear
 use Rattle.index.proofs.find.Goals as goal
 
 pub loop-next-init : goal.loop-next-init
-loop-next-init c =
-    search_start c.requires _ c.wide8-hash.ensures.0 c.wide8-hash.ensures.1
+loop-next-init c = search_start c.requires _ c.from-hash.ensures (rw c.from-hash.ensures (c.fits-x 31))
 
 pub returns-then-same_row : goal.returns-then-same_row
 returns-then-same_row c =
@@ -14,11 +13,11 @@ returns-then-same_row c =
 
 pub loop-next-smaller : goal.loop-next-smaller
 loop-next-smaller c =
-    search_lower c.requires c.loop-next.invariant c.loop-next-test.true (rw c.wide8-hash.ensures.0 at c.wide8-hash.ensures.1)
+    search_lower c.requires c.loop-next.invariant c.loop-next-test.true (c.fits-x 31)
 
 pub loop-next-preserved : goal.loop-next-preserved
 loop-next-preserved c =
-    search_step c.requires c.loop-next.invariant c.loop-next-test.true (rw c.wide8-hash.ensures.0 at c.wide8-hash.ensures.1)
+    search_step c.requires c.loop-next.invariant c.loop-next-test.true (c.fits-x 31)
     (sym c.same_row.ensures ∙ c.if-same_row.false)
 
 pub returns : goal.returns

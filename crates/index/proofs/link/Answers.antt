@@ -4,4 +4,4 @@ use Rattle.index.proofs.Cells.{linked_with}
 use Rattle.index.proofs.link.Goals as goal
 
 pub returns : goal.returns
-returns c = let a = c.args in linked_with a.hash a.place a.numbers.now (omega (arith, c.requires.2))
+returns c = let a = c.args in linked_with a.hash a.place a.numbers.now (omega arith)

@@ -1,5 +1,6 @@
 -- `indexing::list_new` meets its contract: each new slot is put last in the bucket of its count (crates/buckets/proofs/Listing.antt). Assumes nothing.
-use Prim.Native.Nat.{◌-◌}
+use native.Mathlib.Omega.{arith}
+use Prim.Native.Nat.{◌<◌}
 use Rattle.buckets.proofs.Listing.{list_start, list_put, list_step}
 use Rattle.buckets.proofs.Worlds.{list_end}
 use Rattle.indexing.proofs.list_new.Goals as goal
@@ -9,12 +10,13 @@ loop-i-init c = list_start c.requires
 
 pub put_last-requires : goal.put_last-requires
 put_last-requires c =
-    rw c.wide8.ensures.0 (list_put c.requires c.loop-i.invariant c.loop-i-test.true)
+    let l : c.loop-i.i < c.args.n = omega arith in
+    rw c.from.ensures (list_put c.requires c.loop-i.invariant l)
 
 pub loop-i-preserved : goal.loop-i-preserved
 loop-i-preserved c =
-    list_step c.requires c.loop-i.invariant c.loop-i-test.true
-    (rw c.wide8.ensures.0 at c.put_last.ensures)
+    let l : c.loop-i.i < c.args.n = omega arith in
+    list_step c.requires c.loop-i.invariant l (rw c.from.ensures at c.put_last.ensures)
 
 pub returns : goal.returns
-returns c = list_end _ _ _ c.loop-i.invariant c.loop-i-test.false
+returns c = list_end _ _ _ c.loop-i.invariant (omega arith)

@@ -1,4 +1,4 @@
--- `joining::join` meets its contract: the columns of both groups are lent to the join (crate merging) and put together again. Assumes nothing.
+-- `joining::join` meets its contract: the columns of both groups are lent to the join (crate merging). Assumes nothing.
 use Rattle.joining.proofs.join.Goals as goal
 
 pub join-code-requires : goal.join-code-requires

@@ -6,4 +6,4 @@ use lib.ListN.{set}
 use Rattle.keeping.proofs.keep.Goals as goal
 
 pub returns : goal.returns
-returns c = ap (λ (l : List ℕ). set l 8 1) c.copy_words.ensures
+returns c = ap (λ (l : List ℕ). set l 8 1) c.copy.ensures

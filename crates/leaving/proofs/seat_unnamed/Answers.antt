@@ -1,7 +1,6 @@
 -- `leaving::seat_unnamed` meets its contract: an account that is found among the names keeps its mark, any other gets the next seat
 -- (proofs/Seating.antt, `Seating`). Assumes nothing.
 use native.Mathlib.Omega.{arith}
-use Prim.Native.Nat.{◌-◌}
 use Rattle.leaving.proofs.Seating.{seat_start, seat_end, seat_stays, seat_goes, named, unnamed}
 use Rattle.leaving.proofs.seat_unnamed.Goals as goal
 use Rattle.leaving.proofs.seat_unnamed.Goals.{else-stays, then-stays}

@@ -13,9 +13,9 @@ returns-then-asked-most c =
     let p : ltb a.most a.asked ≡ true = lt-ltb _ _ c.if-asked-most.true in
     rw p
 
-pub returns : goal.returns
+pub returns-else-asked-most : goal.returns-else-asked-most
 unfolding too_large
-returns c =
+returns-else-asked-most c =
     let a = c.args in
     let p : ltb a.most a.asked ≡ false = le-ltb _ _ c.if-asked-most.false in
     rw p refl

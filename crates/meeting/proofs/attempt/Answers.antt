@@ -6,11 +6,11 @@ use Rattle.meeting.proofs.attempt.Goals as goal
 
 pub check-checked-requires : goal.check-checked-requires
 check-checked-requires c =
-    record { good_marks = c.requires.ready.good.marks; cost_len = (c.requires.ready.good.cost_long, c.requires.party_bound.0) }
+    record { good_marks = c.requires.ready.good.marks; party_bound = c.requires.party_bound.0 }
 
 pub pass_over-requires : goal.pass_over-requires
 pass_over-requires c =
-    record { rows_bound = (c.requires.ready.good.store.rows_fit, c.requires.ready.good.store.owner_long); linked = (c.requires.ready.linked, c.requires.party_bound.0) }
+    record { rows_bound = c.requires.ready.good.store.rows_fit; linked = (c.requires.ready.linked, c.requires.party_bound.0) }
 
 pub returns-then-skip : goal.returns-then-skip
 returns-then-skip c =

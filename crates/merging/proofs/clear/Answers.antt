@@ -14,9 +14,6 @@ clear_messages-requires c = messages_in_use _ c.requires
 pub clear_records-requires : goal.clear_records-requires
 clear_records-requires c = records_in_use _ c.requires
 
-pub clear_numbers-requires : goal.clear_numbers-requires
-clear_numbers-requires c = c.requires.lengths.numbers
-
 pub returns : goal.returns
 returns c =
     left_fresh _ c.clear_slots.ensures c.clear_accounts.ensures c.clear_messages.ensures c.clear_records.ensures

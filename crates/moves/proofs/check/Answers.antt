@@ -3,13 +3,13 @@ use Rattle.moves.proofs.Branches.{check_in, check_joins, check_out, join_room}
 use Rattle.moves.proofs.check.Goals as goal
 
 pub returns-then-m-eq2 : goal.returns-then-m-eq2
-returns-then-m-eq2 c = check_in _ _ _ c.if-m-eq2.true _ c.saturating_sum.ensures
+returns-then-m-eq2 c = check_in _ _ _ c.if-m-eq2.true c.spend.ensures
 
-pub bounds-joined-next : goal.bounds-joined-next
-bounds-joined-next c = join_room _ _ c.requires.good_marks c.requires.cost_len.1 c.if-m-eq1.true
+pub bounds-joined-tally : goal.bounds-joined-tally
+bounds-joined-tally c = join_room _ _ c.requires.good_marks c.requires.party_bound c.if-m-eq1.true
 
 pub returns-then-m-eq1 : goal.returns-then-m-eq1
-returns-then-m-eq1 c = check_joins _ _ _ c.if-m-eq1.true _ c.saturating_sum-ops.ensures
+returns-then-m-eq1 c = check_joins _ _ _ c.if-m-eq1.true c.spend-spent.ensures
 
 pub returns : goal.returns
-returns c = check_out _ _ _ c.if-m-eq2.false c.if-m-eq1.false _ c.saturating_sum-ops.ensures
+returns c = check_out _ _ _ c.if-m-eq2.false c.if-m-eq1.false c.spend-spent.ensures

@@ -7,11 +7,11 @@ pub returns-then-home-party : goal.returns-then-home-party
 returns-then-home-party c = place_has _ _ _ _ c.if-home-party.true
 
 pub returns-then-got-eq0 : goal.returns-then-got-eq0
-returns-then-got-eq0 c = place_none _ _ _ _ c.if-home-party.false c.if-got-eq0.true _ c.saturating_sum-spent.ensures
+returns-then-got-eq0 c = place_none _ _ _ _ c.if-home-party.false c.if-got-eq0.true c.spend.ensures
 
-pub bounds-member-next : goal.bounds-member-next
-bounds-member-next c = place_room _ (homes c.args.home.now c.args.member.now c.args.tally)
-    c.requires.home_len.0 c.requires.home_bound c.requires.party_bound.0 c.if-home-party.false
+pub bounds-member-tally : goal.bounds-member-tally
+bounds-member-tally c = place_room _ (homes c.args.home.now c.args.member.now c.args.tally)
+    c.told-home c.requires.home_bound c.requires.party_bound.0 c.if-home-party.false
 
 pub returns : goal.returns
 returns c = place_enters _ _ _ _ c.if-home-party.false c.if-got-eq0.false

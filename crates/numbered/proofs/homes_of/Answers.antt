@@ -2,7 +2,7 @@
 -- Assumes nothing.
 use native.Mathlib.Omega.{arith}
 use Rattle.works.specs.Begin.{accounts}
-use Rattle.numbered.proofs.Members.{length_fresh, member_long, member_low}
+use Rattle.numbered.proofs.Members.{member_low}
 use Rattle.numbered.proofs.Parts.{homes_are}
 use Rattle.numbered.proofs.homes_of.Goals as goal
 
@@ -13,7 +13,7 @@ house-requires c =
     let given = accounts a.order.now a.places a.group.now a.homes.now a.members in
     let e = c.number_members.ensures in
     record {
-      n_in_bounds = (omega (arith, p.homes_long, p.members_fit), omega (arith, p.members_fit), member_long given p _ e, length_fresh 255);
+      n_in_bounds = (omega (arith, p.members_fit), omega (arith, p.members_fit));
       by_index = member_low given p _ e;
     }
 

@@ -1,27 +1,12 @@
--- `numbered::judge_all` meets its contract: the order's accounts are judged, then the group's, on columns that keep their lengths
--- (proofs/Members.antt). Assumes nothing.
+-- `numbered::judge_all` meets its contract: the order's accounts are judged, then the group's. Assumes nothing.
 use native.Mathlib.Omega.{arith}
 use Rattle.entry.specs.Entry.{sayings}
-use Rattle.numbered.proofs.Members.{marks_long, costs_long}
 use Rattle.numbered.proofs.Parts.{judged_are}
 use Rattle.numbered.proofs.judge_all.Goals as goal
 
 pub judge_group-requires : goal.judge_group-requires
 judge_group-requires c =
-    let a = c.args in
-    let p = c.requires.order_len in
-    let said = sayings a.set.now a.k a.names.now a.verdicts.now a.costs.now a.n a.default in
-    let e = c.judge_order.ensures in
-    record {
-      spoken = c.requires.spoken;
-      members_in_bounds = (
-        omega (arith, p.2, p.3),
-        p.3,
-        p.4,
-        marks_long said a.order.now a.places p.1 e,
-        costs_long said a.order.now a.places p.1 e,
-      );
-    }
+    record { spoken = c.requires.spoken; members_in_bounds = (omega arith, c.requires.few.1) }
 
 pub returns : goal.returns
 returns c =

@@ -1,13 +1,12 @@
 -- `numbered::rows_of` meets its contract: the owners are copied, the classes laid and the queues chained, over fresh columns. Assumes nothing.
 use native.Mathlib.Omega.{arith}
 use Rattle.works.specs.Begin.{held}
-use Rattle.numbered.proofs.Members.{plan_long}
 use Rattle.numbered.proofs.Parts.{rows_are}
 use Rattle.numbered.proofs.rows_of.Goals as goal
 
 pub link-requires : goal.link-requires
 link-requires c =
-    let p = c.requires in record { n_in_bounds = (omega (arith, p.owner_long, p.n_fits), p.n_fits, plan_long _ _ _ _ p.n_fits _ c.classify.ensures); by_index = p.owned }
+    let p = c.requires in record { n_in_bounds = (omega (arith, p.n_fits), p.n_fits); by_index = p.owned }
 
 pub returns : goal.returns
 returns c =

@@ -5,16 +5,13 @@ use Rattle.numerals.proofs.Words.{refused_zero, refused_word, refused_large, acc
 use Rattle.numerals.proofs.bounded.Goals as goal
 
 pub returns-then-not-plain : goal.returns-then-not-plain
-returns-then-not-plain c = refused_zero _ _ _ _ c.nothing.ensures (sym c.plain.ensures ∙ c.if-not-plain.true)
+returns-then-not-plain c = refused_zero _ _ _ (sym c.if-not-plain.ensures)
 
-pub returns-in_default : goal.returns-in_default
-returns-in_default c =
-    refused_word _ _ _ _ c.nothing-in_default.ensures (sym c.read-n.ensures ∙ c.in_default.is)
+pub returns-in_err-value : goal.returns-in_err-value
+returns-in_err-value c = c.from_residual.ensures ∙ refused_word _ _ _ (sym c.in_err-value.ensures)
 
 pub returns-then-limit-value : goal.returns-then-limit-value
-returns-then-limit-value c =
-    refused_large _ _ _ _ c.nothing-then-limit-value.ensures _ (sym c.read-n.ensures ∙ c.in-Value.is) c.if-limit-value.true
+returns-then-limit-value c = refused_large _ _ _ _ (sym c.in_ok-value.ensures) c.if-limit-value.true
 
 pub returns : goal.returns
-returns c =
-    accepted _ _ _ _ (sym c.plain.ensures ∙ c.if-not-plain.false) (sym c.read-n.ensures ∙ c.in-Value.is) c.if-limit-value.false
+returns c = accepted _ _ _ _ (sym c.if-not-plain.ensures) (sym c.in_ok-value.ensures) c.if-limit-value.false

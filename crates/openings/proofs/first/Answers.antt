@@ -17,10 +17,10 @@ loop-front-init c = record {
   ready = c.requires.ready;
   same = refl;
   long = search rules;
-  wide = c.requires.number_len.0;
+  wide = c.told-number;
   fits = omega arith;
-  room = c.requires.number_len.1;
-  high = omega (arith, c.wide16.ensures.0, c.requires.number_len.2);
+  room = c.requires.numbers_fit.0;
+  high = omega (arith, c.from.ensures, c.requires.numbers_fit.1);
   slots = λ q l. absurd (not-suc-le-zero l);
 }
 
@@ -44,8 +44,8 @@ seek-w-requires c =
     let sl = here a.invariant c.loop-front-test.true in
     record { ready = ready_record a.table a.invariant.ready sl; slot_bound = sl }
 
-pub write_table-table-requires : goal.write_table-table-requires
-write_table-table-requires c =
+pub write_table-requires : goal.write_table-requires
+write_table-requires c =
     here c.loop-front.invariant c.loop-front-test.true
 
 pub bounds-number-slot-then-held-eq0 : goal.bounds-number-slot-then-held-eq0
@@ -61,11 +61,11 @@ returns-then-held-eq0 c =
     let a = c.loop-front in
     let v = a.invariant in
     let l = c.loop-front-test.true in
-    let t = c.write_table-table.ensures in
+    let t = c.write_table.ensures in
     let e = seek_record a.table v.ready (here v l) c.seek-w.result.record t _ a.at c.seek-w.ensures in
     let n = c.held.ensures ∙ held_record a.table v.ready (here v l) c.seek-w.result.record t in
     rw (c.dropped.ensures, c.next_number.ensures)
-    (rw c.wide16.ensures.0 at (first_drops v l e n c.if-held-eq0.true))
+    (rw c.from.ensures at (first_drops v l e n c.if-held-eq0.true))
 
 pub overflow_cast-line : goal.overflow_cast-line
 overflow_cast-line c =
@@ -96,7 +96,7 @@ loop-front-preserved c =
     let a = c.loop-front in
     let v = a.invariant in
     let l = c.loop-front-test.true in
-    let t = c.write_table-table.ensures in
+    let t = c.write_table.ensures in
     let e = seek_record a.table v.ready (here v l) c.seek-w.result.record t _ a.at c.seek-w.ensures in
     let held = held_record a.table v.ready (here v l) c.seek-w.result.record t in
     let n = c.held.ensures ∙ held in
@@ -110,12 +110,12 @@ loop-front-preserved c =
 pub serve-w-requires : goal.serve-w-requires
 serve-w-requires c =
     let v = c.loop-front.invariant in
-    record { ready = v.ready; line_len = (v.long, omega (arith, v.fits, v.room)); by_index = v.slots }
+    record { ready = v.ready; tail_bound = omega (arith, v.fits, v.room); by_index = v.slots }
 
 pub overflow_cast-result : goal.overflow_cast-result
 overflow_cast-result c = omega (arith, c.loop-front.invariant.high)
 
 pub returns : goal.returns
 returns c =
-    rw c.wide16.ensures.0 at
+    rw c.from.ensures at
     (first_end c.loop-front.invariant (omega (arith, c.loop-front-test.false)) c.serve-w.ensures)

@@ -8,7 +8,7 @@ use Rattle.over_height.proofs.held_of.Goals as goal
 pub returns-then-at-slots : goal.returns-then-at-slots
 unfolding held_of
 returns-then-at-slots c =
-    rw (sym c.position_of-at.ensures, lt-ltb _ _ c.if-at-slots.true) (ap₂ ◌+◌ c.wide8.ensures.0 c.wide8-then-at-slots.ensures.0)
+    rw (sym c.position_of-at.ensures, lt-ltb _ _ c.if-at-slots.true) (ap₂ ◌+◌ c.from.ensures c.from-then-at-slots.ensures)
 
 pub returns : goal.returns
 unfolding held_of

@@ -2,7 +2,7 @@
 use mathlib.Core.Path.{sym, ◌∙◌}
 use Prim.Native.Nat.{ℕ}
 use lib.ListN.{length-replicate}
-use Rattle.over_height.proofs.Looks.{none_above, listed_long, listed_front}
+use Rattle.over_height.proofs.Looks.{none_above, listed_front}
 use Rattle.over_height.proofs.overfull.Goals as goal
 
 pub returns-then-none_below : goal.returns-then-none_below
@@ -10,14 +10,7 @@ returns-then-none_below c = none_above _ _ _ _ _ _ (sym c.none_below.ensures ∙
 
 pub some_above-requires : goal.some_above-requires
 some_above-requires c =
-    let p = c.requires in
-    let l = c.list_below-count.ensures in
-    record {
-      number_long = p.0;
-      few = p.1;
-      listed_long = listed_long l (length-replicate {A = ℕ} 1024 0);
-      fits = l.few;
-    }
+    (c.requires.0, c.list_below-count.ensures.few)
 
 pub returns : goal.returns
 returns c = rw (listed_front c.list_below-count.ensures (length-replicate {A = ℕ} 1024 0)) at c.some_above.ensures

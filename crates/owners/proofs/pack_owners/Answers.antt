@@ -2,7 +2,7 @@
 -- message was held at the start (proofs/Packed.antt of columns). Assumes nothing.
 use native.Mathlib.Omega.{arith}
 use mathlib.Core.Path.{◌∙◌, ap, sym}
-use Prim.Native.Nat.{◌-◌}
+use Prim.Native.Nat.{◌<◌, ◌≤◌}
 use Rattle.columns.specs.Laid.{held, is_place}
 use Rattle.columns.proofs.Packed.{pack_start, pack_count, pack_end, unwritten, pack_skip, pack_keep}
 use Rattle.owners.proofs.pack_owners.Goals as goal
@@ -14,7 +14,7 @@ loop-i-init c = pack_start _ _ _ _
 pub loop-i-preserved : goal.loop-i-preserved
 unfolding held
 loop-i-preserved c =
-    let l = c.loop-i-test.true in
+    let l : c.loop-i.i < c.args.n = omega arith in
     let v = c.loop-i.invariant in
     let e = ap is_place (sym (unwritten v)) ∙ sym c.is_place.ensures in
     elim c.if-is_place.branch [
@@ -25,5 +25,5 @@ loop-i-preserved c =
 pub returns : goal.returns
 returns c =
     let v = c.loop-i.invariant in
-    let h = c.loop-i-test.false in
-    record { count = pack_count v h; cells = c.clear_shorts.ensures ∙ pack_end v h }
+    let h : c.args.n ≤ c.loop-i.i = omega arith in
+    record { count = pack_count v h; cells = c.clear.ensures ∙ pack_end v h }

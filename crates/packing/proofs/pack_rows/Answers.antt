@@ -1,7 +1,7 @@
 -- `packing::pack_rows` meets its contract: the loop packs the rows in place, and the call behind it frees the rest
 -- (proofs/PackedRows.antt). Assumes nothing.
 use mathlib.Core.Path.{◌∙◌, sym}
-use Prim.Native.Nat.{◌-◌}
+use Prim.Native.Nat.{◌<◌, ◌≤◌}
 use native.Mathlib.Omega.{arith}
 use Rattle.columns.specs.Laid.{held}
 use Rattle.columns.proofs.Packed.{pack_count}
@@ -15,7 +15,7 @@ loop-i-init c = rows_start _ _ _
 pub loop-i-preserved : goal.loop-i-preserved
 unfolding held
 loop-i-preserved c =
-    let l = c.loop-i-test.true in
+    let l : c.loop-i.i < c.args.n = omega arith in
     let e = sym c.is_place.ensures in
     elim c.if-is_place.branch [
       | then-is_place w ↦ rw (w.col-is, w.copy_row.ensures, w.w-is) (rows_keep c.loop-i.invariant (omega arith) l (e ∙ w.if-is_place.true))
@@ -25,5 +25,5 @@ loop-i-preserved c =
 pub returns : goal.returns
 returns c =
     let v = c.loop-i.invariant in
-    let h = c.loop-i-test.false in
-    record { count = pack_count v.rows h; cells = c.clear_bytes.ensures ∙ rows_end v (omega arith) h }
+    let h : c.args.n ≤ c.loop-i.i = omega arith in
+    record { count = pack_count v.rows h; cells = c.clear.ensures ∙ rows_end v (omega arith) h }

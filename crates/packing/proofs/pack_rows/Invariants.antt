@@ -1,11 +1,7 @@
--- What the loop of `pack_rows` keeps, and what falls with each turn. See Answers.antt.
-use Prim.Native.Nat.{◌-◌}
+-- What the loop of `pack_rows` keeps. See Answers.antt.
 use Rattle.columns.specs.Laid.{held}
 use Rattle.columns.proofs.PackedRows.{PackingRows}
 use Rattle.packing.proofs.pack_rows.Given as goal
 
 abbrev pub invariant-loop-i : goal.invariant-loop-i
 invariant-loop-i l = PackingRows (held l.owner) l.n l.initial.col l.col l.i l.w
-
-abbrev pub decreases-loop-i : goal.decreases-loop-i
-decreases-loop-i l = l.n - l.i

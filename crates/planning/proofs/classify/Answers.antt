@@ -1,7 +1,6 @@
 -- `planning::classify` meets its contract: the loop lays the table of the classes over the column (Tables, crate `entry`). Assumes nothing.
 use native.Mathlib.Omega.{arith}
 use mathlib.Core.Path.{sym, ◌∙◌}
-use Prim.Native.Nat.{◌-◌}
 use Rattle.entry.specs.Entry.{classes_c}
 use Rattle.entry.proofs.Tables.{table_start, table_end, front_step}
 use Rattle.planning.proofs.classify.Goals as goal
@@ -13,12 +12,12 @@ loop-i-init c = table_start _ _ _ _
 pub loop-i-preserved : goal.loop-i-preserved
 loop-i-preserved c =
     let e = c.droppable.ensures in
-    front_step c.loop-i.invariant (omega (arith, c.requires.2, c.requires.3)) c.loop-i-test.true _
-    (elim c.if-droppable.branch [
+    front_step c.loop-i.invariant (omega arith) (omega arith) _
+    (c.from.ensures ∙ elim c.if-droppable.branch [
       | then-droppable w ↦ w.class-is ∙ rw (sym e ∙ w.if-droppable.true)
       | else-droppable w ↦ w.class-is ∙ rw (sym e ∙ w.if-droppable.false)
     ])
 
 pub returns : goal.returns
 unfolding classes_c
-returns c = table_end c.loop-i.invariant c.loop-i-test.false
+returns c = table_end c.loop-i.invariant (omega arith)

@@ -6,22 +6,17 @@ use native.Mathlib.Omega.{arith}
 use Rattle.planning.proofs.Linking.{link_start, link_step, link_end}
 use Rattle.planning.proofs.link.Goals as goal
 
-pub loop-left-init : goal.loop-left-init
-loop-left-init c = link_start _ _ _
+pub loop-i-init : goal.loop-i-init
+loop-i-init c = link_start _ _ _
 
 pub bounds-plan-place : goal.bounds-plan-place
-bounds-plan-place c =
-    let small = c.requires.by_index (c.loop-left.left - 1) (omega (arith, c.loop-left-test.true, c.loop-left.invariant.within)) in
-    omega (arith, small, c.wide16-place.ensures.0)
+bounds-plan-place c = omega (arith, c.requires.by_index (c.loop-i.i - 1) (omega arith))
 
-pub bounds-plan-place-in-loop-left : goal.bounds-plan-place-in-loop-left
-bounds-plan-place-in-loop-left c =
-    let small = c.requires.by_index (c.loop-left.left - 1) (omega (arith, c.loop-left-test.true, c.loop-left.invariant.within)) in
-    omega (arith, small, c.wide16-place.ensures.0)
+pub bounds-plan-place-in-loop-i : goal.bounds-plan-place-in-loop-i
+bounds-plan-place-in-loop-i c = omega (arith, c.requires.by_index (c.loop-i.i - 1) (omega arith))
 
-pub loop-left-preserved : goal.loop-left-preserved
-loop-left-preserved c =
-    link_step c.loop-left.invariant c.loop-left-test.true refl c.wide16-place.ensures.0
+pub loop-i-preserved : goal.loop-i-preserved
+loop-i-preserved c = link_step c.loop-i.invariant c.loop-i-test.true refl c.from-place.ensures
 
 pub returns : goal.returns
-returns c = link_end c.loop-left.invariant (omega (arith, c.loop-left-test.false))
+returns c = link_end c.loop-i.invariant (omega arith)

@@ -1,6 +1,7 @@
 -- `queues::row_of` meets its contract: the search passes the owners from the front (proofs/Seeking.antt). Assumes nothing.
+use mathlib.Core.Path.{◌≡◌}
 use lib.ListN.{length}
-use Prim.Native.Nat.{◌-◌, ◌<◌}
+use Prim.Native.Nat.{◌<◌}
 use native.Mathlib.Omega.{arith}
 use Rattle.queues.proofs.Seeking.{seek_start, seek_found, seek_end, seek_passed, seek_other}
 use Rattle.queues.proofs.row_of.Goals as goal
@@ -22,4 +23,6 @@ loop-i-preserved c =
     ]
 
 pub returns : goal.returns
-returns c = seek_end c.loop-i.invariant (omega arith)
+returns c =
+    let last : c.loop-i.i ≡ c.args.n = omega arith in
+    rw last at (seek_end c.loop-i.invariant (omega arith))

@@ -1,6 +1,7 @@
 -- `refusals::decide` meets its contract: each way out rewrites by the tests that led there. Assumes nothing.
 use mathlib.Core.Path.{sym, ◌∙◌}
 use native.Mathlib.Omega.{arith}
+use borrow.Author.Rules.{rules}
 use Rattle.limits.proofs.Counting.{not_large}
 use Rattle.refusals.specs.Refusals.{code_c}
 use Rattle.refusals.proofs.decide.Goals as goal
@@ -43,7 +44,7 @@ pub overfull-requires : goal.overfull-requires
 overfull-requires c =
     let p = c.requires in
     let n = not_large _ _ _ (sym c.too_large.ensures ∙ c.if-too_large.false) in
-    (p.number_long, omega (arith, p.slots_fit, p.few), p.buckets_good, n.1)
+    (omega (arith, p.slots_fit, p.few), p.buckets_good, n.1)
 
 pub returns-then-overfull : goal.returns-then-overfull
 unfolding code_c

@@ -9,7 +9,7 @@ use Rattle.removal.proofs.remove.Goals as goal
 
 pub seat_unnamed-stay-requires : goal.seat_unnamed-stay-requires
 seat_unnamed-stay-requires c =
-    (seated _ c.requires, whole _, c.requires.lengths.accounts, refl)
+    (seated _ c.requires, whole _)
 
 pub lost_externals-requires : goal.lost_externals-requires
 lost_externals-requires c = owned _ c.requires _ (length_seated c.seat_unnamed-stay.ensures)
@@ -21,7 +21,7 @@ returns-then-lost_externals-ne0 c =
 pub compact-r-requires : goal.compact-r-requires
 compact-r-requires c =
     let g = c.requires in
-    record { n_bound = (few _ g, seated _ g, length_seated c.seat_unnamed-stay.ensures); long = long _ g }
+    (few _ g, seated _ g)
 
 pub count_out-requires : goal.count_out-requires
 count_out-requires c =
@@ -29,7 +29,7 @@ count_out-requires c =
     let x = c.compact-r.new in
     let packed = cols x.owner x.kind x.form x.time x.address x.hash x.accounts [] in
     let fits = indexable {c₁ = packed} (seated _ g) g.lengths.accounts c.seat_unnamed-stay.ensures c.compact-r.ensures in
-    (fits.0, fits.1, g.many)
+    fits
 
 pub returns : goal.returns
 returns c =

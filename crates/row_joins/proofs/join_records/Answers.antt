@@ -2,4 +2,4 @@
 use Rattle.row_joins.proofs.join_records.Goals as goal
 
 pub returns : goal.returns
-returns c = record { address = c.lay_bytes.ensures; hash = c.lay_bytes-2.ensures }
+returns c = record { address = c.lay.ensures; hash = c.lay-2.ensures }

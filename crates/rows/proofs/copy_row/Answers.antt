@@ -4,4 +4,4 @@ use Rattle.rows.proofs.copy_row.Goals as goal
 
 pub returns : goal.returns
 unfolding row_at
-returns c = c.copy_bytes.ensures
+returns c = c.copy.ensures

@@ -1,18 +1,17 @@
--- `rows::get_row` meets its contract: the loop lays the row over 32 zeros (proofs/Lays.antt). Assumes nothing.
-use mathlib.Core.Path.{refl}
-use Prim.Native.Nat.{◌-◌}
-use Rattle.columns.proofs.Lays.{lay_start, read_step, read_end}
+-- `rows::get_row` meets its contract: the row is copied over 32 zeros (columns' proofs/Lays.antt). Assumes nothing.
+use mathlib.Core.Path.{◌≡◌, sym}
+use native.Mathlib.Omega.{arith}
+use Prim.Native.Nat.{◌+◌, ◌-◌, ◌*◌}
+use Rattle.columns.specs.Rows.{row_at}
+use Rattle.columns.proofs.Lays.{part_wide}
 use Rattle.rows.proofs.get_row.Goals as goal
 
-pub loop-k-init : goal.loop-k-init
-loop-k-init c = lay_start _ _ _ _
-
-pub loop-k-preserved : goal.loop-k-preserved
-loop-k-preserved c =
-    let a = c.args in
-    read_step a.col.now a.i c.requires refl c.loop-k.invariant c.loop-k-test.true
+pub copy_from_slice-requires : goal.copy_from_slice-requires
+copy_from_slice-requires c = sym (part_wide (32 * c.args.i) 32 c.args.col.now c.requires)
 
 pub returns : goal.returns
+unfolding row_at
 returns c =
-    let a = c.args in
-    read_end a.col.now a.i c.requires refl c.loop-k.invariant c.loop-k-test.false
+    let i = c.args.i in
+    let size : 32 * i + 32 - 32 * i ≡ 32 = omega arith in
+    rw size at c.copy_from_slice.ensures.after

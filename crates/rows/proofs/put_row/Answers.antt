@@ -1,13 +1,12 @@
--- `rows::put_row` meets its contract: the loop lays the row over the column (proofs/Lays.antt). Assumes nothing.
-use Prim.Native.Nat.{◌-◌}
-use Rattle.columns.proofs.Lays.{lay_start, write_step, write_end}
+-- `rows::put_row` meets its contract: the row is copied over a part of the column (columns' proofs/Lays.antt). Assumes nothing.
+use mathlib.Core.Path.{sym, ◌∙◌}
+use native.Mathlib.Omega.{arith}
+use Prim.Native.Nat.{◌*◌}
+use Rattle.columns.proofs.Lays.{part_wide, laid_part}
 use Rattle.rows.proofs.put_row.Goals as goal
 
-pub loop-k-init : goal.loop-k-init
-loop-k-init c = lay_start _ _ _ _
-
-pub loop-k-preserved : goal.loop-k-preserved
-loop-k-preserved c = write_step c.args.i c.requires.0 c.requires.1 c.loop-k.invariant c.loop-k-test.true
+pub copy_from_slice-requires : goal.copy_from_slice-requires
+copy_from_slice-requires c = part_wide (32 * c.args.i) 32 c.args.col.now c.requires ∙ sym c.told-x
 
 pub returns : goal.returns
-returns c = write_end c.args.i c.requires.0 c.requires.1 c.loop-k.invariant c.loop-k-test.false
+returns c = rw c.copy_from_slice.ensures.after (laid_part (32 * c.args.i) 32 _ c.args.col.now (omega arith) (sym c.told-x))

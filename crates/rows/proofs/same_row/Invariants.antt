@@ -1,9 +1,6 @@
--- What the loop of `same_row` keeps, and what falls with each turn. See Answers.antt.
+-- What the loop of `same_row` keeps. See Answers.antt.
 use Rattle.columns.proofs.Index.{Comparing}
 use Rattle.rows.proofs.same_row.Given as goal
 
 abbrev pub invariant-loop-j : goal.invariant-loop-j
 invariant-loop-j l = Comparing l.col l.x l.i l.j
-
-abbrev pub decreases-loop-j : goal.decreases-loop-j
-decreases-loop-j l = l.j

@@ -1,38 +1,28 @@
 -- `sections::read_section` meets its contract: the count, and so many lines (proofs/Counting.antt). Assumes nothing.
-use Prim.Native.Nat.{◌≤◌}
 use native.Mathlib.Nat.{le_trans, mul-le-mul_right}
 use native.Mathlib.Omega.{arith}
 use lib.ListN.{length}
-use borrow.Author.Tests.{not-true, not-false}
 use Rattle.sections.proofs.Counting.{few_rows, no_count, no_row, all_rows}
 use Rattle.sections.proofs.read_section.Goals as goal
 
-pub returns-then-not-count : goal.returns-then-not-count
-returns-then-not-count c =
-    no_count _ _ _ _ _ _ c.requires.0 c.requires.1 _ c.read_number-count.ensures (not-true _ c.if-not-count.true)
+pub returns-in_default : goal.returns-in_default
+returns-in_default c = no_count _ _ _ _ _ _ c.in_default.ensures
 
-pub read_lines-got-requires : goal.read_lines-got-requires
-read_lines-got-requires c =
-    (c.read_number-count.ensures.within, le_trans (mul-le-mul_right (length c.args.limits.now) (few_rows _ _ c.args.line _ c.args.limits.now c.args.table.now c.requires.0 c.requires.1 _ c.read_number-count.ensures (not-false _ c.if-not-count.false))) c.requires.4)
+pub read_lines-requires : goal.read_lines-requires
+read_lines-requires c =
+    let few = few_rows _ _ c.args.line _ c.args.limits.now c.args.table.now _ c.in-Some.ensures in
+    (c.in-Some.ensures.within, le_trans (mul-le-mul_right (length c.args.limits.now) few) c.requires.4)
 
 pub overflow_add-result : goal.overflow_add-result
 overflow_add-result c =
-    -- the count is not above its limit
-    let few : c.read_number-count.result.value ≤ c.args.limit =
-    few_rows _ _ c.args.line _ c.args.limits.now c.args.table.now c.requires.0 c.requires.1 _ c.read_number-count.ensures (not-false _ c.if-not-count.false) in
-    omega (arith, c.if-got-n.true, few, c.requires)
+    omega (arith, few_rows _ _ c.args.line _ c.args.limits.now c.args.table.now _ c.in-Some.ensures, c.requires)
 
-pub returns-then-got-n : goal.returns-then-got-n
-returns-then-got-n c =
-    no_row _ _ _ _ _ _ c.requires.0 c.requires.1 _ c.read_number-count.ensures (not-false _ c.if-not-count.false) _ c.read_lines-got.ensures c.if-got-n.true
+pub overflow_add-result-in-Err : goal.overflow_add-result-in-Err
+overflow_add-result-in-Err c =
+    omega (arith, few_rows _ _ c.args.line _ c.args.limits.now c.args.table.now _ c.in-Some.ensures, c.in-Err.ensures.few, c.requires)
 
-pub overflow_add-result-2 : goal.overflow_add-result-2
-overflow_add-result-2 c =
-    -- the count is not above its limit
-    let few : c.read_number-count.result.value ≤ c.args.limit =
-    few_rows _ _ c.args.line _ c.args.limits.now c.args.table.now c.requires.0 c.requires.1 _ c.read_number-count.ensures (not-false _ c.if-not-count.false) in
-    omega (arith, few, c.requires)
+pub returns-in-Ok : goal.returns-in-Ok
+returns-in-Ok c = all_rows _ _ _ _ _ _ _ c.in-Some.ensures _ c.in-Ok.ensures
 
-pub returns : goal.returns
-returns c =
-    all_rows _ _ _ _ _ _ c.requires.0 c.requires.1 _ c.read_number-count.ensures (not-false _ c.if-not-count.false) _ c.read_lines-got.ensures c.if-got-n.false
+pub returns-in-Err : goal.returns-in-Err
+returns-in-Err c = no_row _ _ _ _ _ _ _ c.in-Some.ensures _ c.in-Err.ensures

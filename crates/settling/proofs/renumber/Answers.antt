@@ -5,12 +5,12 @@ use Rattle.settling.proofs.renumber.Goals as goal
 pub counts_of-olds-requires : goal.counts_of-olds-requires
 counts_of-olds-requires c =
     let p = c.requires in
-    countable _ _ p.ints2_long p.exts2_long p.low2
+    countable _ _ p.low2
 
 pub counts_of-news-requires : goal.counts_of-news-requires
 counts_of-news-requires c =
     let p = c.requires in
-    countable _ _ p.ints_long p.exts_long p.low
+    countable _ _ p.low
 
 pub reindex-made-requires : goal.reindex-made-requires
 reindex-made-requires c =

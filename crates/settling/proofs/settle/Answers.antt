@@ -9,9 +9,7 @@ pub settle_group-requires : goal.settle_group-requires
 settle_group-requires c = record { may_settle_group = may_settle_group c.requires.group; ints_value = c.tell-ints.ensures.keys.count }
 
 pub settle_buffer-requires : goal.settle_buffer-requires
-settle_buffer-requires c =
-    let p = c.requires in
-    record { good = p.buffer; left_len = p.group.owners.owners_long }
+settle_buffer-requires c = c.requires.buffer
 
 pub returns : goal.returns
 returns c = settled _ c.tell-ints.ensures c.settle_group.ensures c.settle_buffer.ensures

@@ -19,5 +19,5 @@ count_in-requires c = may_count c.requires.may_settle_group _ c.requires.ints_va
 pub returns : goal.returns
 returns c =
     let p = c.requires in
-    group_settled p.may_settle_group c.take_rows.ensures c.enter.ensures c.renumber.ensures _ _ _ p.ints_value c.wide16.ensures.0
+    group_settled p.may_settle_group c.take_rows.ensures c.enter.ensures c.renumber.ensures _ _ _ p.ints_value c.from.ensures
     c.count_in.ensures

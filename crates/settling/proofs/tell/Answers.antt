@@ -4,9 +4,7 @@ use native.Mathlib.Omega.{arith}
 use Rattle.settling.proofs.tell.Goals as goal
 
 pub join_set-requires : goal.join_set-requires
-join_set-requires c =
-    let p = c.requires in
-    record { takes_parties = p.joins; accounts_len = (p.accounts_long, p.accounts2_long, p.set_long) }
+join_set-requires c = c.requires.joins
 
 pub overflow_add-held : goal.overflow_add-held
 overflow_add-held c = omega (arith, c.requires.joins.fits)

@@ -8,4 +8,4 @@ pub returns : goal.returns
 unfolding added
 returns c =
     added_told c.args.number c.args.s c.requires.0 c.add_message-a.result.buffer c.add_message-a.ensures.good c.add_message-a.result.code _ c.add_message-a.ensures.ruled c.args.at _
-    (rw (c.wide8-c.ensures.0 ∙ c.number_of.ensures) at c.put_refusal-end.ensures)
+    (rw (c.from-code.ensures ∙ c.number_of.ensures) at c.put_refusal-end.ensures)

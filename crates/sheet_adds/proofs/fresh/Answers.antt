@@ -5,8 +5,8 @@ use Rattle.sheet_adds.proofs.fresh.Goals as goal
 pub returns : goal.returns
 unfolding fresh
 returns c =
-    let b = c.set_up-b.ensures in
-    let g = c.set_up-g.ensures in (
-      (b.good, g.good, c.fresh-skipped.ensures.0),
-      λ i. record { store = (b.ruled i).after; target = (g.ruled i).after; skipped = c.fresh-skipped.ensures.1 i },
+    let b = c.set_up.ensures in
+    let g = c.set_up-2.ensures in (
+      (b.good, g.good, c.fresh.ensures.0),
+      λ i. record { store = (b.ruled i).after; target = (g.ruled i).after; skipped = c.fresh.ensures.1 i },
     )

@@ -25,4 +25,4 @@ unfolding fill_lines
 returns c =
     let p = c.put_fill-one.ensures in
     let s = puts_shown (meant (table_of c.args.f.group)) c.put_fill-one.new.out c.put_fill-one.result (omega (arith, p.near, p.long, c.requires.1)) c.display-size.ensures in
-    puts_then (rw (c.wide8-c.ensures.0 ∙ c.number_of.ensures) at p) (puts_then s c.end_line.ensures)
+    puts_then (rw (c.from-code.ensures ∙ c.number_of.ensures) at p) (puts_then s c.end_line.ensures)

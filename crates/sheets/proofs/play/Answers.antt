@@ -1,12 +1,8 @@
 -- `sheets::play` meets its contract: messages, fills and the last line stand one behind the other (proofs/Playing.antt), and there is room for
 -- each. Assumes nothing.
-use mathlib.Core.Path.{sym}
 use native.Mathlib.Omega.{arith}
 use Rattle.sheets.proofs.Playing.{play_told}
 use Rattle.sheets.proofs.play.Goals as goal
-
-pub slice_bounds-all-end-2 : goal.slice_bounds-all-end-2
-slice_bounds-all-end-2 c = sym c.requires.0.fills.1
 
 pub all-filled-requires : goal.all-filled-requires
 all-filled-requires c =
@@ -14,9 +10,9 @@ all-filled-requires c =
     let v = c.all-added.ensures in (
       v.good,
       c.rows_of-rows.ensures.good,
-      omega (arith, p.0.fills.0, p.0.fills.1),
-      omega (arith, p.0.fills.1),
-      omega (arith, v.put.near, v.put.long, p.0.messages.0, p.0.fills.0, p.1),
+      omega (arith, p.0.fills),
+      omega arith,
+      omega (arith, v.put.near, v.put.long, p.0.messages, p.0.fills, p.1),
     )
 
 pub put_left-requires : goal.put_left-requires
@@ -24,9 +20,9 @@ put_left-requires c =
     let p = c.requires in
     let v = c.all-added.ensures in
     let w = c.all-filled.ensures in
-    (w.good.0, omega (arith, v.put.near, v.put.long, w.put.near, w.put.long, p.0.messages.0, p.0.fills.0, p.1))
+    (w.good.0, omega (arith, v.put.near, v.put.long, w.put.near, w.put.long, p.0.messages, p.0.fills, p.1))
 
 pub returns : goal.returns
 returns c =
-    play_told c.args.p c.fresh-start.result c.requires.0.messages.0 c.requires.0.fills.0 c.fresh-start.ensures.1 c.rows_of-rows.ensures.same
+    play_told c.args.p c.fresh-start.result c.requires.0.messages c.requires.0.fills c.fresh-start.ensures.1 c.rows_of-rows.ensures.same
     c.all-added.ensures c.all-filled.ensures c.put_left.ensures

@@ -4,12 +4,12 @@ use mathlib.Core.Bool.{true, false}
 use Rattle.rules.specs.Calls.{within as in_range}
 use Rattle.sizes.proofs.slots_for.Goals as goal
 
-pub returns-then-not-within : goal.returns-then-not-within
-returns-then-not-within c =
-    let p : in_range 1 64 c.args.s ≡ false = sym c.within.ensures ∙ c.if-not-within.true in
+pub returns-then-within : goal.returns-then-within
+returns-then-within c =
+    let p : in_range 1 64 c.args.s ≡ true = sym c.within.ensures ∙ c.if-within.true in
     rw p
 
-pub returns : goal.returns
-returns c =
-    let p : in_range 1 64 c.args.s ≡ true = sym c.within.ensures ∙ c.if-not-within.false in
+pub returns-else-within : goal.returns-else-within
+returns-else-within c =
+    let p : in_range 1 64 c.args.s ≡ false = sym c.within.ensures ∙ c.if-within.false in
     rw p

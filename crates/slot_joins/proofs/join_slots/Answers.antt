@@ -3,4 +3,4 @@ use Rattle.slot_joins.proofs.join_slots.Goals as goal
 
 pub returns : goal.returns
 returns c =
-    record { number = c.count_up.ensures; ints = c.lay_bytes.ensures; exts = c.lay_bytes-2.ensures }
+    record { number = c.count_up.ensures; ints = c.lay.ensures; exts = c.lay-2.ensures }

@@ -7,14 +7,10 @@ pub loop-i-init : goal.loop-i-init
 loop-i-init c = (copied_start _ (ints_of_long _), copied_start _ (exts_of_long _))
 
 pub loop-i-preserved : goal.loop-i-preserved
-loop-i-preserved c =
-    let l = c.loop-i-test.true in (
-      rw (ints_of_set c.loop-i.table c.loop-i.i _) (copied_step c.requires.0 c.loop-i.invariant.0 l),
-      rw (exts_of_set c.loop-i.table c.loop-i.i _) (copied_step c.requires.1 c.loop-i.invariant.1 l),
-    )
+loop-i-preserved c = (
+  rw (ints_of_set c.loop-i.record-items c.loop-i.i _) (copied_step c.told-ints c.loop-i.invariant.0 c.loop-i-test.true),
+  rw (exts_of_set c.loop-i.record-items c.loop-i.i _) (copied_step c.told-exts c.loop-i.invariant.1 c.loop-i-test.true),
+)
 
 pub returns : goal.returns
-returns c = (
-  copied_end c.requires.0 c.loop-i.invariant.0 c.loop-i-test.false,
-  copied_end c.requires.1 c.loop-i.invariant.1 c.loop-i-test.false,
-)
+returns c = (copied_end c.told-ints c.loop-i.invariant.0 c.loop-i-test.false, copied_end c.told-exts c.loop-i.invariant.1 c.loop-i-test.false)

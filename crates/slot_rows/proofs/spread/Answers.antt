@@ -5,21 +5,18 @@ use Rattle.slot_rows.proofs.Tables.{copied_start, copied_step, copied_end, ints_
 use Rattle.slot_rows.proofs.spread.Goals as goal
 
 pub loop-i-init : goal.loop-i-init
-loop-i-init c = (copied_start _ c.requires.0, copied_start _ c.requires.1)
+loop-i-init c = (copied_start _ c.told-ints, copied_start _ c.told-exts)
 
 pub loop-i-preserved : goal.loop-i-preserved
 loop-i-preserved c =
-    let t = c.args.table in
-    let long = c.well_formed.0.1.0.1 in
-    let l = c.loop-i-test.true in (
-      rw (ints_of_at t c.loop-i.i) at (copied_step (ints_of_long t ∙ long) c.loop-i.invariant.0 l),
-      rw (exts_of_at t c.loop-i.i) at (copied_step (exts_of_long t ∙ long) c.loop-i.invariant.1 l),
+    let t = c.args.table.now in (
+      rw (ints_of_at t c.loop-i.i) at (copied_step (ints_of_long t ∙ c.told-table) c.loop-i.invariant.0 c.loop-i-test.true),
+      rw (exts_of_at t c.loop-i.i) at (copied_step (exts_of_long t ∙ c.told-table) c.loop-i.invariant.1 c.loop-i-test.true),
     )
 
 pub returns : goal.returns
 returns c =
-    let t = c.args.table in
-    let long = c.well_formed.0.1.0.1 in (
-      copied_end (ints_of_long t ∙ long) c.loop-i.invariant.0 c.loop-i-test.false,
-      copied_end (exts_of_long t ∙ long) c.loop-i.invariant.1 c.loop-i-test.false,
+    let t = c.args.table.now in (
+      copied_end (ints_of_long t ∙ c.told-table) c.loop-i.invariant.0 c.loop-i-test.false,
+      copied_end (exts_of_long t ∙ c.told-table) c.loop-i.invariant.1 c.loop-i-test.false,
     )

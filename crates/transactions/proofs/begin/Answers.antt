@@ -1,6 +1,7 @@
 -- `transactions::begin` meets its contract: a half holds no more than its room, so it can be copied down. Assumes nothing.
 use mathlib.Core.List.{[]}
-use mathlib.Core.Path.{sym, ◌∙◌}
+use mathlib.Core.Path.{refl, sym, ◌∙◌}
+use Rattle.message.proofs.Codes.{passed_on}
 use Rattle.transactions.proofs.Steps.{down, long_any, begin_refused, begin_done}
 use Rattle.transactions.proofs.begin.Goals as goal
 
@@ -8,11 +9,11 @@ pub copy_half-requires : goal.copy_half-requires
 copy_half-requires c =
     record { halves = down _ c.requires _ c.held-held.ensures; long = long_any _ [] c.requires.lengths }
 
-pub returns-then-number_of-eq0 : goal.returns-then-number_of-eq0
-returns-then-number_of-eq0 c =
-    begin_done _ _ _ _ _ c.may_begin-code.ensures (sym c.number_of.ensures ∙ c.if-number_of-eq0.true) c.held-held.ensures
-    c.copy_half.ensures c.keep.ensures
+pub returns-in_err-may_begin : goal.returns-in_err-may_begin
+returns-in_err-may_begin c =
+    let q = passed_on c.from_residual.result c.from_residual.ensures.1 c.in_err-may_begin.was in
+    begin_refused _ _ (q.0 ∙ c.may_begin.ensures) q.1
 
-pub returns-else-number_of-eq0 : goal.returns-else-number_of-eq0
-returns-else-number_of-eq0 c =
-    begin_refused _ _ c.may_begin-code.ensures (λ e. c.if-number_of-eq0.false (c.number_of.ensures ∙ e))
+pub returns : goal.returns
+returns c =
+    begin_done _ _ _ _ _ (sym c.in_ok-may_begin.was ∙ c.may_begin.ensures) refl c.held-held.ensures c.copy_half.ensures c.keep.ensures

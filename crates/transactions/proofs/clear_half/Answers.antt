@@ -7,12 +7,12 @@ pub returns : goal.returns
 unfolding cleared_c
 returns c =
     λ i. record {
-      owner = c.clear_shorts.ensures i;
-      kind = c.clear_bytes.ensures i;
-      form = c.clear_bytes-2.ensures i;
-      time = c.clear_words.ensures i;
-      address = c.clear_bytes-3.ensures i;
-      hash = c.clear_bytes-4.ensures i;
-      accounts = c.clear_bytes-5.ensures i;
+      owner = c.clear.ensures i;
+      kind = c.clear-2.ensures i;
+      form = c.clear-3.ensures i;
+      time = c.clear-4.ensures i;
+      address = c.clear-5.ensures i;
+      hash = c.clear-6.ensures i;
+      accounts = c.clear-7.ensures i;
       numbers = [];
     }

@@ -6,17 +6,17 @@ use Rattle.queues.specs.Transact.{copied_c}
 use Rattle.transactions.proofs.Steps.{from_fits, to_fits, places_from_fits, places_to_fits, copies_rows, copies_bytes, copies_accounts}
 use Rattle.transactions.proofs.copy_half.Goals as goal
 
-pub copy_shorts-requires : goal.copy_shorts-requires
-copy_shorts-requires c = copies_rows c.requires.halves (omega arith) c.requires.long.owner
+pub copy-requires : goal.copy-requires
+copy-requires c = copies_rows c.requires.halves (omega arith) c.requires.long.owner
 
-pub copy_bytes-requires : goal.copy_bytes-requires
-copy_bytes-requires c = copies_rows c.requires.halves (omega arith) c.requires.long.kind
+pub copy-requires-2 : goal.copy-requires-2
+copy-requires-2 c = copies_rows c.requires.halves (omega arith) c.requires.long.kind
 
-pub copy_bytes-requires-2 : goal.copy_bytes-requires-2
-copy_bytes-requires-2 c = copies_rows c.requires.halves (omega arith) c.requires.long.form
+pub copy-requires-3 : goal.copy-requires-3
+copy-requires-3 c = copies_rows c.requires.halves (omega arith) c.requires.long.form
 
-pub copy_words-requires : goal.copy_words-requires
-copy_words-requires c = copies_rows c.requires.halves (omega arith) c.requires.long.time
+pub copy-requires-4 : goal.copy-requires-4
+copy-requires-4 c = copies_rows c.requires.halves (omega arith) c.requires.long.time
 
 pub overflow_mul-f : goal.overflow_mul-f
 overflow_mul-f c = from_fits c.requires.halves
@@ -24,8 +24,8 @@ overflow_mul-f c = from_fits c.requires.halves
 pub overflow_mul-t : goal.overflow_mul-t
 overflow_mul-t c = to_fits c.requires.halves
 
-pub copy_bytes-requires-3 : goal.copy_bytes-requires-3
-copy_bytes-requires-3 c =
+pub copy-requires-5 : goal.copy-requires-5
+copy-requires-5 c =
     copies_bytes c.requires.halves (omega arith) c.requires.long.address
 
 pub overflow_mul-f-2 : goal.overflow_mul-f-2
@@ -34,8 +34,8 @@ overflow_mul-f-2 c = from_fits c.requires.halves
 pub overflow_mul-t-2 : goal.overflow_mul-t-2
 overflow_mul-t-2 c = to_fits c.requires.halves
 
-pub copy_bytes-requires-4 : goal.copy_bytes-requires-4
-copy_bytes-requires-4 c =
+pub copy-requires-6 : goal.copy-requires-6
+copy-requires-6 c =
     copies_bytes c.requires.halves (omega arith) c.requires.long.hash
 
 pub overflow_mul-from : goal.overflow_mul-from
@@ -44,20 +44,20 @@ overflow_mul-from c = places_from_fits c.requires.halves
 pub overflow_mul-to : goal.overflow_mul-to
 overflow_mul-to c = places_to_fits c.requires.halves
 
-pub copy_bytes-requires-5 : goal.copy_bytes-requires-5
-copy_bytes-requires-5 c =
+pub copy-requires-7 : goal.copy-requires-7
+copy-requires-7 c =
     copies_accounts c.requires.halves (omega arith) c.requires.long.accounts
 
 pub returns : goal.returns
 unfolding copied_c
 returns c =
     λ i. record {
-      owner = c.copy_shorts.ensures i;
-      kind = c.copy_bytes.ensures i;
-      form = c.copy_bytes-2.ensures i;
-      time = c.copy_words.ensures i;
-      address = c.copy_bytes-3.ensures i;
-      hash = c.copy_bytes-4.ensures i;
-      accounts = c.copy_bytes-5.ensures i;
+      owner = c.copy.ensures i;
+      kind = c.copy-2.ensures i;
+      form = c.copy-3.ensures i;
+      time = c.copy-4.ensures i;
+      address = c.copy-5.ensures i;
+      hash = c.copy-6.ensures i;
+      accounts = c.copy-7.ensures i;
       numbers = [];
     }

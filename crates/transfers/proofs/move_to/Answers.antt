@@ -14,7 +14,7 @@ pub returns-then-most-eq0 : goal.returns-then-most-eq0
 returns-then-most-eq0 c =
     let l : c.args.party < c.args.fixed.places = omega (arith, c.if-fixed-party.false) in
     move_stop _ c.args.fixed _ _ _ l _ _ (c.held-holds.ensures ∙ sym (alone_held _ _ _ c.requires.party_bound.1)) c.wanted-most.ensures c.if-most-eq0.true
-    _ c.saturating_sum-ops.ensures
+    c.spend-begun.ensures
 
 pub grow-grown-requires : goal.grow-grown-requires
 grow-grown-requires c =
@@ -28,8 +28,7 @@ grow-grown-requires c =
 
 pub enter-entered-requires : goal.enter-entered-requires
 enter-entered-requires c =
-    let good = c.requires.good_store in
-    record { party_bound = c.requires.party_bound; home_len = (good.home_long, good.member_long); home_bound = good.enters }
+    record { party_bound = c.requires.party_bound; home_bound = rw (c.spend-spent.ensures, c.spend-begun.ensures) c.requires.good_store.enters }
 
 pub returns : goal.returns
 returns c =
@@ -40,6 +39,6 @@ returns c =
     c.wanted-most.ensures
     c.if-most-eq0.false
     c.take_front-took.ensures
-    _ _ c.saturating_sum-ops.ensures
-    c.saturating_sum-spent.ensures
+    c.spend-begun.ensures
+    c.spend-spent.ensures
     _ _ (alone_grown _ _ _ _ slot grown.0) (alone_grown _ _ _ _ slot grown.1) _ _ _ c.enter-entered.ensures

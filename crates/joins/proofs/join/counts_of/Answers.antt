@@ -1,6 +1,5 @@
 -- `joins::join::counts_of` meets its contract: the loop lays the sums over an array of zeros (proofs/Sums.antt). Assumes nothing.
 use mathlib.Core.Path.{refl}
-use Prim.Native.Nat.{◌-◌}
 use native.Mathlib.Omega.{arith}
 use Rattle.columns.proofs.Lays.{lay_start}
 use Rattle.joins.proofs.Sums.{sum_step, sum_end}

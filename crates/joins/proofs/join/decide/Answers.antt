@@ -1,14 +1,13 @@
 -- `joins::join::decide` meets its contract: each way out rewrites by the tests that led there. Assumes nothing.
-use mathlib.Core.Path.{◌≡◌, sym, ◌∙◌}
-use mathlib.Core.Bool.{true, false}
+use mathlib.Core.Path.{sym, ◌∙◌}
 use mathlib.Core.List.{List}
-use Prim.Native.Nat.{ℕ, ◌+◌, ◌≤◌}
+use Prim.Native.Nat.{ℕ, ◌≤◌}
 use native.Mathlib.Omega.{arith}
 use borrow.Author.Tests.{lt-ltb, le-ltb, le-leb, lt-leb}
-use lib.Dec.{eqb, leb, ltb}
+use lib.Dec.{eqb}
 use lib.ListN.{get_or}
 use Rattle.numbers.proofs.Bytes.{by_bool}
-use Rattle.slots.specs.Join.{shared_t, next_by, join_code_by}
+use Rattle.slots.specs.Join.{next_by, join_code_by}
 use Rattle.joins.proofs.join.decide.Goals as goal
 
 -- a first new number fits
@@ -22,33 +21,26 @@ overflow_add-used c =
 
 pub returns-then-many : goal.returns-then-many
 unfolding join_code_by
-returns-then-many c =
-    let a = c.args in
-    let many : ltb (get_or a.left.now 0 0) (get_or a.left.now 1 0 + get_or a.right.now 1 0) ≡ true = lt-ltb _ _ c.if-many.true in
-    simp many
+returns-then-many c = simp (lt-ltb _ _ c.if-many.true)
 
 pub returns-then-twice : goal.returns-then-twice
 unfolding join_code_by
-returns-then-twice c =
-    let a = c.args in
-    let many : ltb (get_or a.left.now 0 0) (get_or a.left.now 1 0 + get_or a.right.now 1 0) ≡ false = le-ltb _ _ c.if-many.false in
-    let twice : shared_t (get_or a.left.now 2 0) a.accounts.now (get_or a.right.now 2 0) a.others.now ≡ true = sym c.shared-twice.ensures ∙ c.if-twice.true in
-    simp (many, twice)
+returns-then-twice c = simp (le-ltb _ _ c.if-many.false, sym c.shared-twice.ensures ∙ c.if-twice.true)
 
 pub returns-then-used : goal.returns-then-used
 unfolding join_code_by
 returns-then-used c =
-    let a = c.args in
-    let many : ltb (get_or a.left.now 0 0) (get_or a.left.now 1 0 + get_or a.right.now 1 0) ≡ false = le-ltb _ _ c.if-many.false in
-    let twice : shared_t (get_or a.left.now 2 0) a.accounts.now (get_or a.right.now 2 0) a.others.now ≡ false = sym c.shared-twice.ensures ∙ c.if-twice.false in
-    let used : leb 65535 (next_by a.left.now + get_or a.right.now 1 0) ≡ true = le-leb _ _ (rw c.next_number.ensures at c.if-used.true) in
-    simp (many, twice, used)
+    simp (
+      le-ltb _ _ c.if-many.false,
+      sym c.shared-twice.ensures ∙ c.if-twice.false,
+      le-leb _ _ (rw c.next_number.ensures at c.if-used.true),
+    )
 
 pub returns : goal.returns
 unfolding join_code_by
 returns c =
-    let a = c.args in
-    let many : ltb (get_or a.left.now 0 0) (get_or a.left.now 1 0 + get_or a.right.now 1 0) ≡ false = le-ltb _ _ c.if-many.false in
-    let twice : shared_t (get_or a.left.now 2 0) a.accounts.now (get_or a.right.now 2 0) a.others.now ≡ false = sym c.shared-twice.ensures ∙ c.if-twice.false in
-    let used : leb 65535 (next_by a.left.now + get_or a.right.now 1 0) ≡ false = lt-leb _ _ (rw c.next_number.ensures at c.if-used.false) in
-    simp (many, twice, used)
+    simp (
+      le-ltb _ _ c.if-many.false,
+      sym c.shared-twice.ensures ∙ c.if-twice.false,
+      lt-leb _ _ (rw c.next_number.ensures at c.if-used.false),
+    )

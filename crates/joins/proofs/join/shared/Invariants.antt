@@ -1,9 +1,8 @@
--- What the loop of `join::shared` keeps, and what falls with each turn. See Answers.antt.
-use Rattle.joins.proofs.Shared.{Seeking}
+-- What the loop of `join::shared` keeps: none of the accounts passed is one of the left's. See Answers.antt.
+use mathlib.Core.Path.{◌≡◌}
+use mathlib.Core.Bool.{false}
+use Rattle.slots.specs.Join.{shared_t}
 use Rattle.joins.proofs.join.shared.Given as goal
 
 abbrev pub invariant-loop-k : goal.invariant-loop-k
-invariant-loop-k l = Seeking l.m l.left l.n l.right l.k
-
-abbrev pub decreases-loop-k : goal.decreases-loop-k
-decreases-loop-k l = l.k
+invariant-loop-k l = shared_t l.m l.left l.k l.right ≡ false

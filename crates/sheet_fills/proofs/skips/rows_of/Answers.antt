@@ -13,7 +13,7 @@ returns c =
     record {
       good = record {
         few = c.requires.1;
-        names_long = n.auto.names ∙ length-replicate {A = ℕ} 2048 0;
+        names_long = n.array_long;
         verdicts_long = v.auto.verdicts ∙ length-replicate {A = ℕ} 64 0;
         costs_long = k.auto.costs ∙ length-replicate {A = ℕ} 64 0;
       };

@@ -10,22 +10,19 @@ use Rattle.sheets.proofs.runs.all.Goals as goal
 
 pub loop-i-init : goal.loop-i-init
 unfolding fills
-loop-i-init c = (omega arith, tells_none c.args.s c.requires.0 c.args.at _)
+loop-i-init c = tells_none c.args.s c.requires.0 c.args.at _
 
 pub step-done-requires : goal.step-done-requires
 step-done-requires c =
-    let v = c.loop-i.invariant.1 in
+    let v = c.loop-i.invariant in
     (v.good, c.requires.1, omega (arith, v.put.near, v.put.long, c.requires.4, c.loop-i-test.true))
 
 pub loop-i-preserved : goal.loop-i-preserved
 loop-i-preserved c =
-    (omega (arith, c.loop-i-test.true), fills_then _ _ c.loop-i.i _ (c.asked_of-asked.ensures (skips_in c.args.rows)) c.loop-i.invariant.1 c.step-done.ensures)
-
-pub shape_of-out : goal.shape_of-out
-shape_of-out c = c.loop-i.invariant.1.put.long
+    fills_then _ _ c.loop-i.i _ (c.asked_of-asked.ensures (skips_in c.args.rows)) c.loop-i.invariant c.step-done.ensures
 
 pub returns : goal.returns
 returns c =
     let l = c.loop-i in
     let a = c.args in
-    tells_all (λ k. fills (skips_in a.rows) a.cells.now k (meant_by a.s)) 247 l.invariant.0 c.loop-i-test.false l.invariant.1
+    tells_all (λ k. fills (skips_in a.rows) a.cells.now k (meant_by a.s)) 247 (omega arith) c.loop-i-test.false l.invariant

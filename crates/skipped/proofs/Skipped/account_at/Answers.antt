@@ -1,6 +1,5 @@
 -- `Skipped::account_at` meets its contract: a row below the accounts held has an account, any other has none (proofs/Walk.antt). Assumes
 -- nothing.
-use Rattle.numbers.specs.Bytes.{zeros}
 use Rattle.skipped.proofs.Walk.{account_is, account_missing}
 use Rattle.skipped.proofs.Skipped.account_at.Goals as goal
 
@@ -9,6 +8,5 @@ returns-then-position-held c =
     let a = c.args in
     rw c.get_row.ensures (account_is a.self.held a.self.accounts a.position c.if-position-held.true)
 
-pub returns : goal.returns
-unfolding zeros
-returns c = let a = c.args in account_missing a.self.held a.self.accounts a.position c.if-position-held.false
+pub returns-else-position-held : goal.returns-else-position-held
+returns-else-position-held c = let a = c.args in account_missing a.self.held a.self.accounts a.position c.if-position-held.false

@@ -1,45 +1,33 @@
 -- `text::sheet::parse` meets its contract: the first section that is broken has the line, and else the tables hold the sheet
 -- (proofs/Sections.antt). Assumes nothing.
-use mathlib.Core.Path.{refl, sym, ap, ◌∙◌}
-use native.Mathlib.Omega.{arith}
+use mathlib.Core.Path.{refl, sym, ap}
+use Rattle.std.proofs.lemmas.Result.{err_from_is_err_and}
 use Rattle.text.specs.Steps.{laid_out}
 use Rattle.text.proofs.Sections.{read_long, read_skips, read_messages, read_fills, read_extra, read_all}
 use Rattle.text.proofs.sheet.parse.Goals as goal
 
 pub returns-then-text-gt16384 : goal.returns-then-text-gt16384
-returns-then-text-gt16384 c = c.broken_at.ensures ∙ ap laid_out (sym (read_long _ c.if-text-gt16384.true))
+returns-then-text-gt16384 c = ap laid_out (sym (read_long _ c.if-text-gt16384.true))
 
-pub returns-then-s-ne0 : goal.returns-then-s-ne0
-returns-then-s-ne0 c =
-    c.broken_at-then-s-ne0.ensures ∙ ap laid_out (sym (read_skips c.args.text.now c.if-text-gt16384.false _ c.read_skips-s.ensures c.if-s-ne0.true))
+pub returns-in_err-s : goal.returns-in_err-s
+returns-in_err-s c =
+    let p = err_from_is_err_and c.from_residual.result c.from_residual.ensures.1 in
+    rw (p.1, p.2) (ap laid_out (sym (read_skips c.args.text.now c.if-text-gt16384.false _ c.in_err-s.ensures)))
 
-pub read_messages-m-requires : goal.read_messages-m-requires
-read_messages-m-requires c =
-    let w = c.read_skips-s.ensures in
-    (w.within, omega (arith, w.behind c.if-s-ne0.false), omega (arith, w.near), omega arith)
+pub returns-in_err-m : goal.returns-in_err-m
+returns-in_err-m c =
+    let p = err_from_is_err_and c.from_residual-in_err-m.result c.from_residual-in_err-m.ensures.1 in
+    rw (p.1, p.2) (ap laid_out (sym (read_messages c.args.text.now c.if-text-gt16384.false _ c.in_ok-s.ensures _ c.in_err-m.ensures)))
 
-pub returns-then-m-ne0 : goal.returns-then-m-ne0
-returns-then-m-ne0 c =
-    c.broken_at-then-m-ne0.ensures
-    ∙ ap laid_out (sym (read_messages c.args.text.now c.if-text-gt16384.false _ c.read_skips-s.ensures c.if-s-ne0.false _ c.read_messages-m.ensures c.if-m-ne0.true))
-
-pub read_fills-f-requires : goal.read_fills-f-requires
-read_fills-f-requires c =
-    let w = c.read_skips-s.ensures in
-    let x = c.read_messages-m.ensures in
-    (x.within, omega (arith, x.behind c.if-m-ne0.false), omega (arith, x.near, w.near), omega arith)
-
-pub returns-then-f-ne0 : goal.returns-then-f-ne0
-returns-then-f-ne0 c =
-    c.broken_at-then-f-ne0.ensures
-    ∙ ap laid_out (sym (read_fills c.args.text.now c.if-text-gt16384.false _ c.read_skips-s.ensures c.if-s-ne0.false _ c.read_messages-m.ensures c.if-m-ne0.false _ c.read_fills-f.ensures c.if-f-ne0.true))
+pub returns-in_err-f : goal.returns-in_err-f
+returns-in_err-f c =
+    let p = err_from_is_err_and c.from_residual-in_err-f.result c.from_residual-in_err-f.ensures.1 in
+    rw (p.1, p.2) (ap laid_out (sym (read_fills c.args.text.now c.if-text-gt16384.false _ c.in_ok-s.ensures _ c.in_ok-m.ensures _ c.in_err-f.ensures)))
 
 pub returns-then-f-text : goal.returns-then-f-text
 returns-then-f-text c =
-    c.broken_at-then-f-text.ensures
-    ∙ ap laid_out (sym (read_extra c.args.text.now c.if-text-gt16384.false _ c.read_skips-s.ensures c.if-s-ne0.false _ c.read_messages-m.ensures c.if-m-ne0.false _ c.read_fills-f.ensures c.if-f-ne0.false c.if-f-text.true))
+    ap laid_out (sym (read_extra c.args.text.now c.if-text-gt16384.false _ c.in_ok-s.ensures _ c.in_ok-m.ensures _ c.in_ok-f.ensures c.if-f-text.true))
 
 pub returns : goal.returns
 returns c =
-    read_all c.args.text.now c.if-text-gt16384.false _ c.read_skips-s.ensures c.if-s-ne0.false _ c.read_messages-m.ensures c.if-m-ne0.false _ c.read_fills-f.ensures c.if-f-ne0.false c.if-f-text.false
-    refl refl refl refl refl refl
+    read_all c.args.text.now c.if-text-gt16384.false _ c.in_ok-s.ensures _ c.in_ok-m.ensures _ c.in_ok-f.ensures c.if-f-text.false refl refl refl refl refl refl

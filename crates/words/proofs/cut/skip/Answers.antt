@@ -1,16 +1,7 @@
--- `words::cut::skip` meets its contract: the loop passes over the bytes that the test lets pass (proofs/Passing.antt). Assumes nothing.
-use borrow.Author.Tests.{eq-eqb, ne_eqb}
-use Rattle.words.proofs.Passing.{pass_start, pass_step, pass_found, pass_end}
+-- `words::cut::skip` meets its contract: its test lets pass what it says. Assumes nothing.
+use Rattle.std.proofs.Common.{rules}
+use lib.Dec.{eqb}
 use Rattle.words.proofs.cut.skip.Goals as goal
 
-pub loop-i-init : goal.loop-i-init
-loop-i-init c = pass_start _ _ _
-
-pub returns-then-s-i : goal.returns-then-s-i
-returns-then-s-i c = pass_found _ _ _ c.loop-i.invariant c.loop-i-test.true (ne_eqb _ _ c.if-s-i.true)
-
-pub loop-i-preserved : goal.loop-i-preserved
-loop-i-preserved c = pass_step _ _ _ c.loop-i.invariant c.loop-i-test.true (eq-eqb _ _ c.if-s-i.false)
-
 pub returns : goal.returns
-returns c = pass_end _ _ _ c.loop-i.invariant c.loop-i-test.false
+returns c = c.first.ensures (λ x. eqb x c.args.b) (λ b r e. search rules)

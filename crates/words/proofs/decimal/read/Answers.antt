@@ -1,53 +1,37 @@
 -- `words::decimal::read` meets its contract: what the bytes that are left make of the value so far is what the word stands for
 -- (proofs/Reading.antt). Assumes nothing.
 use mathlib.Core.Path.{◌≡◌, sym, ◌∙◌}
-use mathlib.Core.Bool.{Bool, true}
-use lib.ListN.{get_or}
-use Prim.Native.Nat.{ℕ, ◌≤◌}
+use Prim.Native.Nat.{◌+◌, ◌-◌, ◌*◌, ◌^◌, ◌≤◌}
 use native.Mathlib.Omega.{arith}
-use Rattle.words.specs.Digits.{is_digit}
-use Rattle.words.proofs.Reading.{digit_bounds, read_none, read_start, read_other, read_large, read_step, read_end}
+use lib.ListN.{get_or}
+use borrow.Author.Tests.{eqb-true, eqb-false}
+use Rattle.words.proofs.Reading.{read_none, read_start, read_other, read_large, read_step, read_end}
 use Rattle.words.proofs.decimal.read.Goals as goal
 
--- past the test the byte is a digit
-digit : {r : Bool} → (b : ℕ) → r ≡ is_digit b → r ≡ true → is_digit b ≡ true
-digit b told held = sym told ∙ held
+pub returns-then-is_empty : goal.returns-then-is_empty
+returns-then-is_empty c = read_none _ (eqb-true _ _ (sym c.if-is_empty.ensures))
 
-bounds : {r : Bool} → (b : ℕ) → r ≡ is_digit b → r ≡ true → (48 ≤ b) × (b ≤ 57)
-bounds b told held = digit_bounds b (digit b told held)
+pub loop-b-init : goal.loop-b-init
+loop-b-init c = read_start _ (eqb-false _ _ (sym c.if-is_empty.ensures))
 
-pub returns-then-word-eq0 : goal.returns-then-word-eq0
-returns-then-word-eq0 c = read_none _ c.if-word-eq0.true
+pub returns-then-not-is_ascii_digit : goal.returns-then-not-is_ascii_digit
+returns-then-not-is_ascii_digit c = read_other _ c.loop-b.invariant c.loop-b-test.true (sym c.if-not-is_ascii_digit.ensures.value)
 
-pub loop-at-init : goal.loop-at-init
-loop-at-init c = read_start _ c.if-word-eq0.false
+pub returns-in_err-checked_mul : goal.returns-in_err-checked_mul
+returns-in_err-checked_mul c =
+    c.from_residual.ensures ∙ read_large _ c.loop-b.invariant c.loop-b-test.true (omega (arith, c.in_err-checked_mul.ensures))
 
-pub returns-then-not-is_digit : goal.returns-then-not-is_digit
-returns-then-not-is_digit c =
-    read_other _ c.loop-at.invariant c.loop-at-test.true (sym c.is_digit.ensures ∙ c.if-not-is_digit.true)
+pub returns-in_err-value : goal.returns-in_err-value
+returns-in_err-value c =
+    let sum : 2 ^ 64 ≤ c.loop-b.value * 10 + (get_or c.args.word.now c.loop-b.b-index 0 - 48) =
+    omega (arith, c.in_err-value.ensures, c.in_ok-checked_mul.ensures.1, c.from.ensures) in
+    c.from_residual-in_err-value.ensures ∙ read_large _ c.loop-b.invariant c.loop-b-test.true sum
 
-pub overflow_sub-digit : goal.overflow_sub-digit
-overflow_sub-digit c = (bounds (get_or c.args.word.now c.loop-at.at 0) c.is_digit.ensures c.if-not-is_digit.false).0
-
-pub overflow_cast-digit : goal.overflow_cast-digit
-overflow_cast-digit c = omega (arith, bounds (get_or c.args.word.now c.loop-at.at 0) c.is_digit.ensures c.if-not-is_digit.false)
-
-pub overflow_sub-digit-in-loop-at : goal.overflow_sub-digit-in-loop-at
-overflow_sub-digit-in-loop-at c = omega (arith, bounds (get_or c.args.word.now c.loop-at.at 0) c.is_digit.ensures c.if-not-is_digit.false)
-
-pub returns-then-digit-value : goal.returns-then-digit-value
-returns-then-digit-value c =
-    read_large _ c.loop-at.invariant c.loop-at-test.true (omega (arith, c.if-digit-value.true, bounds (get_or c.args.word.now c.loop-at.at 0) c.is_digit.ensures c.if-not-is_digit.false))
-
-pub overflow_mul-value : goal.overflow_mul-value
-overflow_mul-value c = omega (arith, c.if-digit-value.false, bounds (get_or c.args.word.now c.loop-at.at 0) c.is_digit.ensures c.if-not-is_digit.false)
-
-pub overflow_add-value : goal.overflow_add-value
-overflow_add-value c = omega (arith, c.if-digit-value.false, bounds (get_or c.args.word.now c.loop-at.at 0) c.is_digit.ensures c.if-not-is_digit.false)
-
-pub loop-at-preserved : goal.loop-at-preserved
-loop-at-preserved c =
-    read_step _ c.loop-at.invariant c.loop-at-test.true (digit (get_or c.args.word.now c.loop-at.at 0) c.is_digit.ensures c.if-not-is_digit.false) (omega (arith, c.if-digit-value.false, bounds (get_or c.args.word.now c.loop-at.at 0) c.is_digit.ensures c.if-not-is_digit.false))
+pub loop-b-preserved : goal.loop-b-preserved
+loop-b-preserved c =
+    let sum : c.in_ok-value.value ≡ c.loop-b.value * 10 + (get_or c.args.word.now c.loop-b.b-index 0 - 48) =
+    omega (arith, c.in_ok-value.ensures.1, c.in_ok-checked_mul.ensures.1, c.from.ensures) in
+    rw sum (read_step _ c.loop-b.invariant c.loop-b-test.true (sym c.if-not-is_ascii_digit.ensures.value) (omega (arith, c.in_ok-value.ensures.0)))
 
 pub returns : goal.returns
-returns c = read_end _ c.loop-at.invariant c.loop-at-test.false
+returns c = read_end _ c.loop-b.invariant c.loop-b-test.false

@@ -1,12 +1,8 @@
--- What the loop of `decimal::spell` keeps, and what falls with each turn. See Answers.antt.
-use mathlib.Core.Path.{◌≡◌}
+-- What the loop of `decimal::spell` keeps. See Answers.antt.
 use Prim.Native.Nat.{◌-◌}
-use lib.ListN.{length, take}
+use lib.ListN.{take}
 use Rattle.words.proofs.Digits.{Spelling}
 use Rattle.words.proofs.decimal.spell.Given as goal
 
 abbrev pub invariant-loop-i : goal.invariant-loop-i
-invariant-loop-i l = (length l.out ≡ length l.initial.out) × Spelling 10 48 l.n l.k l.k l.rest l.i (take l.k l.out)
-
-abbrev pub decreases-loop-i : goal.decreases-loop-i
-decreases-loop-i l = l.k - l.i
+invariant-loop-i l = Spelling 10 48 l.n l.k l.k l.rest (l.k - l.i) (take l.k l.out)

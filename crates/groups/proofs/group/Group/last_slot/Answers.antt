@@ -5,4 +5,4 @@ use Rattle.groups.specs.Groups.{table_of}
 use Rattle.groups.proofs.group.Group.last_slot.Goals as goal
 
 pub returns : goal.returns
-returns c = c.last_slot.ensures ∙ last_seen (table_of c.args.self) c.requires
+returns c = c.last_slot.ensures ∙ last_seen (table_of c.args.self)

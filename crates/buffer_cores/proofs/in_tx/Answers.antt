@@ -1,7 +1,0 @@
--- `in_tx` meets its contract: the answer of the read, as a number. Assumes nothing.
-use mathlib.Core.Path.{ap, ◌∙◌}
-use Rattle.export_parts.specs.Parts.{bit}
-use Rattle.buffer_cores.proofs.in_tx.Goals as goal
-
-pub returns : goal.returns
-returns c = c.bit_of.ensures ∙ ap bit c.in_tx.ensures

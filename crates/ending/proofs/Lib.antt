@@ -1,0 +1,2 @@
+-- The count of the rows that are still held.
+pub mod Left
