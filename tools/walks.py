@@ -186,9 +186,10 @@ def codes():
     """The codes: number, name, and when each is given."""
     text = source('message')
     said = {name: (int(number), why) for number, why, name in re.findall(r'// (\d+): (.*)\n +(\w+),', text)}
-    told = {name: int(number) for name, number in re.findall(r'Code::(\w+) => (\d+),', text)}
-    if {name: number for name, (number, _) in said.items()} != told:
+    told = {name: int(number) for name, number in re.findall(r'Refusal::(\w+) => (\d+),', text)}
+    if {name: number for name, (number, _) in said.items()} != told or 'Ok(()) => 0,' not in text:
         sys.exit('walks: the codes of crate message and their numbers part')
+    said = {'Done': (0, 'done'), **said}
     return [(number, re.sub(r'(?<=[a-z])(?=[A-Z])', '_', name).upper(), why) for name, (number, why) in said.items()]
 
 
