@@ -1,2 +1,3 @@
--- What the proofs share: Answers (what a set-up gives).
+-- What the proofs share: Answers (what a set-up gives), LastTold (what is told of the last slot number).
 pub mod Answers
+pub mod LastTold

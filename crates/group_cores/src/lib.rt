@@ -2,7 +2,7 @@
 // `accounts_seen` and `messages_seen` with its answer written out in numbers (crate `group_parts`).
 #![tactic(auto)]
 
-ghost use Rattle.std.specs.Prelude.{◌≡◌, ◌≤◌, length, get_or};
+ghost use Rattle.std.specs.Prelude.{◌≡◌, not, [], ◌∷◌, ◌≤◌, eqb, length, get_or};
 ghost use Rattle.display.specs.Line.{written};
 ghost use Rattle.queues.specs.Look.{row_of};
 ghost use Rattle.slots.specs.Table.{table};
@@ -10,7 +10,7 @@ ghost use Rattle.slots.specs.Join.{fresh_t};
 ghost use Rattle.buckets.specs.Cells.{GoodBuckets};
 ghost use Rattle.export_parts.specs.Parts.{bit, Told, ToldMessage};
 ghost use Rattle.group_reads.specs.Shown.{line_for};
-ghost use Rattle.group_reads.specs.Lent.{counts_in, empty_in, filled_in, last_in};
+ghost use Rattle.group_reads.specs.Lent.{counts_in, empty_in, filled_in};
 ghost use Rattle.slots_seen.specs.Slots.{slot_found, entry_in, id_found};
 ghost use Rattle.accounts_seen.specs.Accounts.{holds, account_found};
 ghost use Rattle.messages_seen.specs.Messages.{row_for, message_found};
@@ -113,12 +113,13 @@ pub fn check_is_filled(buckets: &[u32; 1088], numbers: &[u64; 16], asked: u64, h
     export_parts::bit_of(group_shown::check_is_filled(buckets, numbers, asked, height as usize))
 }
 
+// Writes the number beside the mark of a last slot, and answers whether the mark is set.
 pub fn last_slot(numbers: &[u64; 16], out: &mut [u16; 1]) -> u8
     requires { get_or numbers.now 6 0 ≤ 65535 }
-    ensures { ToldId result out.new (last_in numbers.now) }
+    ensures { (result ≡ bit (not (eqb (get_or numbers.now 7 0) 0))) × (out.new ≡ get_or numbers.now 6 0 ∷ []) }
 {
-    let last = held::last_slot(numbers);
-    group_parts::tell_id(last, out)
+    *out = [held::last_number(numbers).0];
+    export_parts::bit_of(held::last_slot(numbers).is_some())
 }
 
 pub fn display(numbers: &[u64; 16], out: &mut [u8]) -> u64
