@@ -1,5 +1,6 @@
 // The walk of a buffer in order: the account at a place, the message at a position of its queue; and how many messages an account has. Each is
-// a read of crate `buffer_seen` on the columns that it needs.
+// a read of crate `buffer_seen` on the columns that it needs, which are taken out of the buffer by name: a field lent in place would have the
+// whole buffer copied first.
 #![tactic(auto)]
 
 ghost use Rattle.std.specs.Prelude.{◌≡◌};
@@ -18,7 +19,13 @@ pub fn account_messages_count(buffer: Buffer, name: [u8; 32]) -> usize
     requires { GoodBuffer buffer }
     ensures { result ≡ queued_of Real name (meant (cols_of buffer)).now }
 {
-    buffer_seen::account_messages_count(&buffer.owner, &buffer.accounts, &buffer.numbers, name)
+    let Buffer {
+        owner,
+        accounts,
+        numbers,
+        ..
+    } = buffer;
+    buffer_seen::account_messages_count(&owner, &accounts, &numbers, name)
 }
 
 // The account at a place of the order; none past the end.
@@ -26,7 +33,12 @@ pub fn account_at(buffer: Buffer, place: Place) -> Option<[u8; 32]>
     requires { GoodBuffer buffer }
     ensures { result ≡ seen_account (account_at Real place.0 (meant (cols_of buffer)).now) }
 {
-    buffer_seen::account_at(&buffer.accounts, &buffer.numbers, place.0)
+    let Buffer {
+        accounts,
+        numbers,
+        ..
+    } = buffer;
+    buffer_seen::account_at(&accounts, &numbers, place.0)
 }
 
 // The message at a position of the queue at a place of the order; none past either end.
@@ -34,15 +46,17 @@ pub fn message_at(buffer: Buffer, place: Place, position: usize) -> Option<Messa
     requires { GoodBuffer buffer }
     ensures { result ≡ seen_message (message_at Real place.0 position (meant (cols_of buffer)).now) }
 {
+    let Buffer {
+        owner,
+        kind,
+        form,
+        time,
+        address,
+        hash,
+        numbers,
+        ..
+    } = buffer;
     buffer_seen::message_at(
-        &buffer.owner,
-        &buffer.kind,
-        &buffer.form,
-        &buffer.time,
-        &buffer.address,
-        &buffer.hash,
-        &buffer.numbers,
-        place.0,
-        position,
+        &owner, &kind, &form, &time, &address, &hash, &numbers, place.0, position,
     )
 }

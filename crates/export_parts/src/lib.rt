@@ -57,8 +57,12 @@ pub fn tell(m: Message, facts: &mut [u64; 4], to: &mut [u8; 32], hashed: &mut [u
 pub fn tell_account(seen: Option<[u8; 32]>, out: &mut [u8; 32]) -> u8
     ensures { Told result out.new seen }
 {
-    *out = seen.unwrap_or([0u8; 32]);
-    bit_of(seen.is_some())
+    let Some(account) = seen else {
+        *out = [0u8; 32];
+        return 0;
+    };
+    *out = account;
+    1
 }
 
 // Writes the parts of a message, those of a fresh one if there is none, and answers whether there is one.
@@ -70,7 +74,10 @@ pub fn tell_message(
 ) -> u8
     ensures { ToldMessage result facts.new to.new hashed.new seen }
 {
-    let m = seen.unwrap_or(message::blank());
+    let Some(m) = seen else {
+        tell(message::blank(), facts, to, hashed);
+        return 0;
+    };
     tell(m, facts, to, hashed);
-    bit_of(seen.is_some())
+    1
 }

@@ -29,13 +29,12 @@ pub fn tell_id(found: Option<SlotId>, out: &mut [u16; 1]) -> u8
 pub fn tell_slot(found: Option<SeenSlot>, out: &mut [u64; 3]) -> u8
     ensures { ToldSlot result out.new found }
 {
-    let slot = found.unwrap_or(SeenSlot {
-        id: SlotId(0),
-        ints: 0,
-        exts: 0,
-    });
+    let Some(slot) = found else {
+        *out = [0, 0, 0];
+        return 0;
+    };
     let ints = u64::from(slot.ints);
     let exts = u64::from(slot.exts);
     *out = [u64::from(slot.id.0), ints, exts];
-    export_parts::bit_of(found.is_some())
+    1
 }

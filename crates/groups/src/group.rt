@@ -99,7 +99,13 @@ impl Group {
         requires { GoodGroup self }
         ensures { result ≡ is_filled Real asked height (meant (table_of self)).now }
     {
-        group_shown::check_is_filled(&self.buckets, &self.numbers, asked, height)
+        // Taken out by name: a field lent in place would have the whole group copied first.
+        let Group {
+            buckets,
+            numbers,
+            ..
+        } = self;
+        group_shown::check_is_filled(&buckets, &numbers, asked, height)
     }
 
     // The last slot number that was given; it is not the number of slots.

@@ -1,38 +1,35 @@
--- The loop that looks for an account of both groups: one found is an answer for all, and if none of those passed is one of the left's, then
--- none of all is. Assumes nothing.
-use mathlib.Core.Path.{◌≡◌, sym}
-use mathlib.Core.Bool.{true, false}
+-- The loop that looks for an account of both groups, from the right's last account down: none of those passed is one of the left's, so the
+-- answer for those that are left is the answer for all. Assumes nothing.
+use mathlib.Core.Path.{◌≡◌, refl, sym, ◌∙◌}
+use mathlib.Core.Bool.{true, false, cond}
 use mathlib.Core.List.{List}
-use Prim.Native.Nat.{ℕ, zero, suc, ◌+◌, ◌<◌, ◌≤◌}
+use Prim.Native.Nat.{ℕ, suc, ◌-◌, ◌<◌, ◌≤◌}
 use native.Mathlib.Omega.{arith}
-use lib.Dec.{eqb, ltb}
-use borrow.Author.Tests.{lt-ltb, le-ltb, eqb-true, eqb-false}
-use Rattle.numbers.proofs.Bytes.{by_bool}
+use lib.Dec.{ltb}
+use borrow.Author.Tests.{lt-ltb, le-ltb}
 use Rattle.columns.specs.Rows.{row_at, rows_of, index_of}
 use Rattle.slots.specs.Join.{shared_t}
 
-module _ (m : ℕ) (left right : List ℕ) where
-  abbrev test : ℕ → Type 0
-  test k = ltb (index_of (row_at right k) (rows_of m left)) m ≡ true
+pub record Seeking (m : ℕ) (left : List ℕ) (n : ℕ) (right : List ℕ) (k : ℕ) : Type 0 where
+  pub within : k ≤ n
+  pub same : shared_t m left k right ≡ shared_t m left n right
 
-  -- the test holds of one of n accounts
-  shared_at : (n k : ℕ) → k < n → test k → shared_t m left n right ≡ true
+pub seek_start : (m : ℕ) (left : List ℕ) (n : ℕ) (right : List ℕ) → Seeking m left n right n
+seek_start m left n right = record { within = omega arith; same = refl }
+
+module _ {m : ℕ} {left : List ℕ} {n : ℕ} {right : List ℕ} {k : ℕ} (v : Seeking m left n right k) where
+  -- the next account, and those that are left
+  next : 0 < k → cond (ltb (index_of (row_at right (k - 1)) (rows_of m left)) m) true (shared_t m left (k - 1) right) ≡ shared_t m left n right
   unfolding shared_t
-  shared_at zero k l t = absurd (omega arith)
-  shared_at (suc n) k l t =
-      by_bool (eqb k n)
-      (λ e. let z = eqb-true k n e in rw (← z, t))
-      (λ e. let z = eqb-false k n e in
-      let h = shared_at n k (omega arith) t in
-      by_bool (ltb (index_of (row_at right n) (rows_of m left)) m) (λ q. rw q) (λ q. rw (q, h)))
+  next l = let e : k ≡ suc (k - 1) = omega arith in rw e at v.same
 
-  module _ (k : ℕ) {x : List ℕ} {r : ℕ} (row : x ≡ row_at right k) (at : r ≡ index_of x (rows_of m left)) where
-    pub seek_found : (n : ℕ) → k < n → r < m → true ≡ shared_t m left n right
-    seek_found n l h = let t : test k = rw (← row, ← at) (lt-ltb r m h) in sym (shared_at n k l t)
+  module _ (l : 0 < k) {x : List ℕ} {r : ℕ} (row : x ≡ row_at right (k - 1)) (at : r ≡ index_of x (rows_of m left)) where
+    pub seek_found : r < m → true ≡ shared_t m left n right
+    seek_found h = rw (← row, ← at, lt-ltb r m h) at (next l)
 
-    pub seek_step : shared_t m left k right ≡ false → m ≤ r → shared_t m left (k + 1) right ≡ false
-    unfolding shared_t
-    seek_step v h = let e : k + 1 ≡ suc k = omega arith in rw (e, ← row, ← at, le-ltb r m h) v
+    pub seek_step : m ≤ r → Seeking m left n right (k - 1)
+    seek_step h = record { within = omega (arith, v.within); same = rw (← row, ← at, le-ltb r m h) at (next l) }
 
-  pub seek_end : (k : ℕ) → shared_t m left k right ≡ false → (n : ℕ) → n ≤ k → k ≤ n → false ≡ shared_t m left n right
-  seek_end k v n l h = let e : n ≡ k = omega arith in rw e (sym v)
+  pub seek_end : k ≤ 0 → false ≡ shared_t m left n right
+  unfolding shared_t
+  seek_end h = let e : k ≡ 0 = omega arith in rw e at v.same

@@ -5,12 +5,13 @@ ghost use Rattle.joins.specs.Laying.{Rooms, Countable};
 
 use message::{Code, Refusal};
 
-// Whether one of the first n accounts of the right is one of the first m of the left.
+// Whether one of the first n accounts of the right is one of the first m of the left. It looks from the right's last account down: where the
+// one that entered last is shared, one search is enough.
 fn shared(left: &[u8], m: usize, right: &[u8], n: usize) -> bool
     requires { (32 * m ≤ length left.now) × (32 * n ≤ length right.now) }
     ensures { result ≡ shared_t m left.now n right.now }
 {
-    for k in 0..n {
+    for k in (0..n).rev() {
         let x = rows::get_row(right, k);
         if rows::find_row(left, m, &x) < m {
             return true;

@@ -4,7 +4,7 @@ use mathlib.Core.Path.{◌≡◌, refl, sym, ap, ◌∙◌}
 use mathlib.Core.List.{List, [], ◌∷◌, map}
 use Prim.Native.Nat.{ℕ, zero, suc, ◌+◌, ◌<◌, ◌≤◌}
 use native.Mathlib.Omega.{arith}
-use lib.ListN.{length, get_or, take, set, length-map, get_or-map}
+use lib.ListN.{length, take, set}
 use lib.Seq.{take_all}
 use Rattle.columns.specs.Lists.{tab_i}
 use Rattle.columns.specs.Laid.{laid_at}

@@ -13,7 +13,9 @@ pub fn lay<T: Copy>(col: &mut [T], to: usize, from: &[T], n: usize)
     requires { Lays to n (length from.now) (length col.old) }
     ensures { col.new ≡ laid_at to (take n from.now) col.old }
 {
-    col[to..to + n].copy_from_slice(&from[..n]);
+    for (i, x) in from[..n].iter().enumerate() {
+        col[to + i] = *x;
+    }
 }
 
 // The same, each cell raised by a number: f is what the type's sum makes of a cell.

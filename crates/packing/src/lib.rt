@@ -51,5 +51,11 @@ pub fn count_owned(owner: &[u16], n: usize, p: u16) -> usize
     requires { n ≤ length owner.now }
     ensures { result ≡ count_i (λ i o. eqb o p) n 0 owner.now }
 {
-    owner[..n].iter().filter(|&&o| o == p).count()
+    let mut count: usize = 0;
+    for i in 0..n {
+        if owner[i] == p {
+            count += 1;
+        }
+    }
+    count
 }

@@ -27,9 +27,7 @@ pub fn get_row(col: &[u8], i: usize) -> [u8; 32]
     ensures { result ≡ row_at col.now i }
 {
     let base = 32 * i;
-    let mut x = [0u8; 32];
-    x.copy_from_slice(&col[base..base + 32]);
-    x
+    <[u8; 32]>::try_from(&col[base..base + 32]).unwrap()
 }
 
 // Writes x to row i.
@@ -38,7 +36,9 @@ pub fn put_row(col: &mut [u8], i: usize, x: &[u8; 32])
     ensures { col.new ≡ laid_at (32 * i) x.now col.old }
 {
     let base = 32 * i;
-    col[base..base + 32].copy_from_slice(x);
+    for k in 0..32 {
+        col[base + k] = x[k];
+    }
 }
 
 // Copies row `from` to row `to`; the two may be one.
@@ -46,7 +46,8 @@ pub fn copy_row(col: &mut [u8], from: usize, to: usize)
     requires { (32 * from + 32 ≤ length col.old) × (32 * to + 32 ≤ length col.old) }
     ensures { col.new ≡ laid_at (32 * to) (row_at col.old from) col.old }
 {
-    cells::copy(col, 32 * from, 32 * to, 32);
+    let x = get_row(col, from);
+    put_row(col, to, &x);
 }
 
 // The index of the first of n rows that is x, n if none is.

@@ -3,6 +3,6 @@ use borrow.Author.Rules.{rules}
 use Rattle.numbers.specs.Bytes.{zeros}
 use Rattle.export_parts.proofs.tell_account.Goals as goal
 
-pub returns : goal.returns
+pub returns-in_default : goal.returns-in_default
 unfolding zeros
-returns c = search rules
+returns-in_default c = search rules

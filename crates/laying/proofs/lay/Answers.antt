@@ -1,17 +1,22 @@
--- `laying::lay` meets its contract: the part holds the front of the source (columns' proofs/Lays.antt). Assumes nothing.
-use mathlib.Core.Path.{sym}
+-- `laying::lay` meets its contract: the loop lays the source over the cells from `to` on (columns' proofs/Lays.antt). Assumes nothing.
 use native.Mathlib.Omega.{arith}
-use lib.Seq.{length-take-le}
-use Rattle.columns.proofs.Lays.{part_wide, laid_part}
+use lib.ListN.{take}
+use lib.Seq.{length-take-le, take_all}
+use Rattle.columns.proofs.Lays.{lay_start, lay_step, lay_end}
 use Rattle.laying.proofs.lay.Goals as goal
 
-pub copy_from_slice-requires : goal.copy_from_slice-requires
-copy_from_slice-requires g c =
+pub loop-i-init : goal.loop-i-init
+loop-i-init g c = lay_start _ _ _ _
+
+pub loop-i-preserved : goal.loop-i-preserved
+loop-i-preserved g c =
     let a = c.args in
-    omega (arith, part_wide a.to a.n a.col.now c.requires.target, length-take-le a.n a.from.now c.requires.source)
+    let front = length-take-le a.n a.from.now c.requires.source in
+    let x = c.x-item.result in
+    lay_step c.loop-i.invariant (omega arith) x c.requires.target (omega arith) x c.x-item.is
 
 pub returns : goal.returns
 returns g c =
     let a = c.args in
-    rw c.copy_from_slice.ensures.after
-    (laid_part a.to a.n _ a.col.now (omega arith) (sym (length-take-le a.n a.from.now c.requires.source)))
+    let front = length-take-le a.n a.from.now c.requires.source in
+    rw (take_all a.n (take a.n a.from.now) (omega arith)) at (lay_end c.loop-i.invariant (omega arith) (omega arith))

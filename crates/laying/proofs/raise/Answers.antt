@@ -4,7 +4,7 @@ use mathlib.Core.List.{List, map}
 use mathlib.Core.Path.{◌≡◌, sym, ap, ◌∙◌, subst}
 use native.Mathlib.Omega.{arith}
 use Prim.Native.Nat.{ℕ, ◌<◌, ◌≤◌}
-use lib.ListN.{length, get_or, take, length-map, get_or-map}
+use lib.ListN.{length, take, length-map, get_or-map}
 use lib.Seq.{length-take-le, get_or-take, take_all}
 use Rattle.columns.proofs.Lays.{lay_start, lay_step, lay_end}
 use Rattle.laying.proofs.raise.Goals as goal

@@ -1,7 +1,5 @@
--- `rows::copy_row` meets its contract: it is a copy of 32 cells, and two rows are one or lie apart. Assumes nothing.
-use Rattle.columns.specs.Rows.{row_at}
+-- `rows::copy_row` meets its contract: a row read and written. Assumes nothing.
 use Rattle.rows.proofs.copy_row.Goals as goal
 
 pub returns : goal.returns
-unfolding row_at
-returns c = c.copy.ensures
+returns c = rw c.get_row-x.ensures at c.put_row.ensures
