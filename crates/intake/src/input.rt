@@ -31,10 +31,8 @@ fn fill(chunk: &mut [u8], reader: &mut Reader)
     if reader.at < reader.held {
         return;
     }
-    // The read is lent a copy of the handle, and nothing of the reader, so that `at` and `held` can stay in registers from byte to byte.
-    let mut from = reader.from;
-    let held = from.read(chunk).unwrap_or(0);
-    *reader = Reader { from, at: 0, held };
+    reader.at = 0;
+    reader.held = reader.from.read(chunk).unwrap_or(0);
 }
 
 // The next byte, if there is one.
