@@ -13,6 +13,7 @@ pub fn lay<T: Copy>(col: &mut [T], to: usize, from: &[T], n: usize)
     requires { Lays to n (length from.now) (length col.old) }
     ensures { col.new ≡ laid_at to (take n from.now) col.old }
 {
+    // A `for` and no `copy_from_slice`, with which the archive of the join asks for `memmove` from outside.
     for (i, x) in from[..n].iter().enumerate() {
         col[to + i] = *x;
     }

@@ -36,6 +36,7 @@ pub fn put_row(col: &mut [u8], i: usize, x: &[u8; 32])
     ensures { col.new ≡ laid_at (32 * i) x.now col.old }
 {
     let base = 32 * i;
+    // A `for` and no `copy_from_slice`, which here goes from byte to byte.
     for k in 0..32 {
         col[base + k] = x[k];
     }

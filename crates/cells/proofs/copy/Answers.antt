@@ -2,8 +2,9 @@
 -- nothing.
 use native.Mathlib.Omega.{arith}
 use lib.ListN.{length, drop, length-drop}
-use Prim.Native.Nat.{◌+◌, ◌-◌, ◌≤◌}
-use mathlib.Core.Path.{◌≡◌, ◌∙◌}
+use lib.Seq.{paste}
+use Prim.Native.Nat.{ℕ, ◌+◌, ◌-◌, ◌≤◌}
+use mathlib.Core.Path.{◌≡◌, ap, ◌∙◌}
 use Rattle.columns.proofs.Lays.{laid_paste}
 use Rattle.cells.proofs.copy.Goals as goal
 
@@ -12,4 +13,4 @@ returns g c =
     let a = c.args in
     let size : a.from + a.n - a.from ≡ a.n = omega arith in
     let enough : a.n ≤ length (drop a.from a.col.now) = simp length-drop (omega arith) in
-    (rw size at c.copy_within.ensures.after) ∙ laid_paste a.to a.n _ _ enough
+    c.copy_within.ensures.after ∙ ap (λ (k : ℕ). paste a.col.now a.to (drop a.from a.col.now) k) size ∙ laid_paste a.to a.n _ _ enough

@@ -1,2 +1,0 @@
--- The count of the rows that are still held.
-pub mod Left
