@@ -36,7 +36,7 @@ pub fn put_row(col: &mut [u8], i: usize, x: &[u8; 32])
     ensures { col.new ≡ laid_at (32 * i) x.now col.old }
 {
     let base = 32 * i;
-    // A `for` and no `copy_from_slice`, which here goes from byte to byte.
+    // A `for`: read and written by `copy_from_slice`, a row took five times the instructions.
     for k in 0..32 {
         col[base + k] = x[k];
     }

@@ -5,7 +5,7 @@ use lib.Dec.{ltb}
 use lib.ListN.{get_or}
 use mathlib.Core.Path.{◌≡◌}
 use mathlib.Core.Bool.{true, false}
-use Prim.Native.Nat.{◌-◌, ◌≤◌}
+use Prim.Native.Nat.{◌≤◌}
 use native.Mathlib.Nat.{sub-zero, zero-add, add-zero, sub-eq-zero_of_le}
 use native.Mathlib.Omega.{arith}
 use borrow.Author.Rules.{rules}
